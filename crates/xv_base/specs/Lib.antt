@@ -1,1 +1,5 @@
 pub mod Fault
+pub mod Name
+pub mod Number
+pub mod Padded
+pub mod Text

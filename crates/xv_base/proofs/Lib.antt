@@ -1,0 +1,4 @@
+pub mod PaddedLemmas
+pub mod NameLemmas
+pub mod NumberLemmas
+pub mod TextLemmas

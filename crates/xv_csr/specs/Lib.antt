@@ -1,0 +1,6 @@
+pub mod Bits
+pub mod Kept
+pub mod Pending
+pub mod Reset
+pub mod Table
+pub mod Trap

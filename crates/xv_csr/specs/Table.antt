@@ -1,0 +1,70 @@
+-- The supervisor CSRs by number: which there are, what a read gives and what a write leaves.
+use Rattle.std.specs.Prelude.{ℕ, ◌==◌, Bool, true, false, if◌then◌else◌, List, [], ◌∷◌, Option, Some, None, option_and_then}
+use Rattle.xv_csr.specs.declared.SCsrs.{SCsrs}
+use Rattle.xv_csr.specs.declared.Lines.{Lines}
+use Rattle.xv_csr.specs.declared.Register.{Register}
+use Rattle.xv_csr.specs.declared.Register.TheVariants.{Sstatus, Sie, Stvec, Scounteren, Senvcfg, Sscratch, Sepc, Scause, Stval, Sip, Satp, Time}
+use Rattle.xv_csr.specs.Bits.{has_bit}
+use Rattle.xv_csr.specs.Kept.{kept_sstatus, kept_sie, kept_stvec, kept_scounteren, kept_senvcfg, kept_sepc, kept_satp}
+use Rattle.xv_csr.specs.Pending.{sip_of}
+
+-- number and register (Privileged Architecture 20211203, section 2.2)
+abbrev pub rows : List (ℕ × Register)
+rows =
+    (0x100, Sstatus) ∷ (0x104, Sie) ∷ (0x105, Stvec) ∷ (0x106, Scounteren) ∷ (0x10A, Senvcfg)
+    ∷ (0x140, Sscratch) ∷ (0x141, Sepc) ∷ (0x142, Scause) ∷ (0x143, Stval) ∷ (0x144, Sip)
+    ∷ (0x180, Satp) ∷ (0xC01, Time) ∷ []
+
+-- the register that has the number among the rows
+abbrev pub register_among : List (ℕ × Register) → ℕ → Option Register
+register_among [] number = None
+register_among (row ∷ others) number = if row.0 == number then Some row.1 else register_among others number
+
+unfoldable pub register_of : ℕ → Option Register
+register_of number = register_among rows number
+
+-- S reads each register; U reads time alone, and only where bit 1 of scounteren, TM, is set
+abbrev pub may_read : SCsrs → Bool → Register → Bool
+may_read csrs false register = true
+may_read csrs true Time = has_bit 1 csrs.scounteren
+may_read csrs true register = false
+
+-- what a read gives
+abbrev pub shown : SCsrs → Lines → ℕ → Register → ℕ
+shown csrs lines time Sstatus = csrs.sstatus
+shown csrs lines time Sie = csrs.sie
+shown csrs lines time Stvec = csrs.stvec
+shown csrs lines time Scounteren = csrs.scounteren
+shown csrs lines time Senvcfg = csrs.senvcfg
+shown csrs lines time Sscratch = csrs.sscratch
+shown csrs lines time Sepc = csrs.sepc
+shown csrs lines time Scause = csrs.scause
+shown csrs lines time Stval = csrs.stval
+shown csrs lines time Sip = sip_of csrs lines
+shown csrs lines time Satp = csrs.satp
+shown csrs lines time Time = time
+
+-- what a write leaves, or none at the read-only time
+abbrev pub written : SCsrs → ℕ → Register → Option SCsrs
+written csrs value Sstatus = Some (record csrs { sstatus = kept_sstatus value })
+written csrs value Sie = Some (record csrs { sie = kept_sie value })
+written csrs value Stvec = Some (record csrs { stvec = kept_stvec value })
+written csrs value Scounteren = Some (record csrs { scounteren = kept_scounteren value })
+written csrs value Senvcfg = Some (record csrs { senvcfg = kept_senvcfg value })
+written csrs value Sscratch = Some (record csrs { sscratch = value })
+written csrs value Sepc = Some (record csrs { sepc = kept_sepc value })
+written csrs value Scause = Some (record csrs { scause = value })
+written csrs value Stval = Some (record csrs { stval = value })
+written csrs value Sip = Some (record csrs { ssip = has_bit 1 value })
+written csrs value Satp = Some (record csrs { satp = kept_satp csrs.satp value })
+written csrs value Time = None
+
+-- what a read of a CSR by its number gives in U or in S, or none where it is refused
+unfoldable pub csr_read : SCsrs → ℕ → Bool → Lines → ℕ → Option ℕ
+csr_read csrs number user lines time =
+    option_and_then (λ register. if may_read csrs user register then Some (shown csrs lines time register) else None) (register_of number)
+
+-- what a write of a CSR by its number leaves, or none where it is refused: always in U
+unfoldable pub csr_written : SCsrs → ℕ → Bool → ℕ → Option SCsrs
+csr_written csrs number user value =
+    if user then None else option_and_then (λ register. written csrs value register) (register_of number)

@@ -1,0 +1,78 @@
+//! What each register keeps of a value that is written to it.
+ghost use Rattle.std.specs.Prelude.{◌≡◌};
+ghost use Rattle.xv_csr.specs.Kept.{kept_sstatus, kept_sie, kept_stvec, kept_scounteren, kept_senvcfg, kept_sepc, kept_satp};
+
+use crate::flags::{Interrupts, Sstatus};
+use bitflags::Flags;
+
+// the read-only UXL: 64 bits
+const UXL: u64 = 2 << 32;
+
+const TM: u64 = 1 << 1;
+
+const FIOM: u64 = 1 << 0;
+
+const VECTORED: u64 = 1;
+
+const BARE: u64 = 0;
+
+const SV39: u64 = 8;
+
+#[tactic(auto, unfolding(crate::specs::Kept::kept_sstatus, bitflags::proofs::OnLiterals::bitflags_on_literals))]
+pub fn kept_sstatus(value: u64) -> u64
+    ensures { result ≡ kept_sstatus value }
+{
+    Sstatus::from_bits_truncate(value).bits() + UXL
+}
+
+#[tactic(auto, unfolding(crate::specs::Kept::kept_sie, bitflags::proofs::OnLiterals::bitflags_on_literals))]
+pub fn kept_sie(value: u64) -> u64
+    ensures { result ≡ kept_sie value }
+{
+    Interrupts::from_bits_truncate(value).bits()
+}
+
+#[tactic(auto, unfolding(crate::specs::Kept::kept_stvec))]
+pub fn kept_stvec(value: u64) -> u64
+    ensures { result ≡ kept_stvec value }
+{
+    let base = value / 4 * 4;
+    if value % 4 == VECTORED {
+        base + VECTORED
+    } else {
+        base
+    }
+}
+
+#[tactic(auto, unfolding(crate::specs::Kept::kept_scounteren))]
+pub fn kept_scounteren(value: u64) -> u64
+    ensures { result ≡ kept_scounteren value }
+{
+    value & TM
+}
+
+#[tactic(auto, unfolding(crate::specs::Kept::kept_senvcfg))]
+pub fn kept_senvcfg(value: u64) -> u64
+    ensures { result ≡ kept_senvcfg value }
+{
+    value & FIOM
+}
+
+#[tactic(auto, unfolding(crate::specs::Kept::kept_sepc))]
+pub fn kept_sepc(value: u64) -> u64
+    ensures { result ≡ kept_sepc value }
+{
+    value / 4 * 4
+}
+
+#[tactic(auto, unfolding(crate::specs::Kept::kept_satp))]
+pub fn kept_satp(old: u64, value: u64) -> u64
+    ensures { result ≡ kept_satp old value }
+{
+    let mode = value >> 60;
+    if mode == BARE || mode == SV39 {
+        (mode << 60) + value % (1 << 44)
+    } else {
+        old
+    }
+}

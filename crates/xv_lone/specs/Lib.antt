@@ -1,0 +1,10 @@
+pub mod Plan
+pub mod Cell
+pub mod Vcpu
+pub mod Rows
+pub mod Step
+pub mod Machine
+pub mod Turn
+pub mod Journal
+pub use Rattle.xv_mem.specs.Bytes
+pub use Rattle.xv_csr.specs.Reset

@@ -1,0 +1,3 @@
+mod Empty
+mod Tries
+pub mod Told

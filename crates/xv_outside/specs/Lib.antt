@@ -1,0 +1,5 @@
+pub mod Outside
+pub mod Fetch
+pub mod Memory
+pub mod Stream
+pub use Rattle.xv_base.specs.Fault

@@ -1,0 +1,17 @@
+//! The outside of xv: where a script comes from, where answers go, and where files are read.
+//!
+//! Each object counts the failures of its own calls. Code that is generic over the traits can't
+//! raise that count, so a status that comes only where the count rose has a cause outside.
+#![tactic(auto)]
+
+mod adapters;
+mod calls;
+mod memory;
+mod outside;
+
+pub use adapters::{ReaderSource, StdSink, StdSource, WriterSink};
+pub use memory::{EmptyFiles, MemSink, MemSource};
+pub use outside::{Failed, FetchFault, Fetched, Files, Sink, Source};
+
+#[cfg(test)]
+mod tests;

@@ -1,0 +1,58 @@
+use Rattle.std.proofs.Common.{◌∙◌, length, None, Some, refl, sym, ap, codes}
+use Rattle.std.proofs.lemmas.Bool.{cond-true, cond-false}
+use Rattle.xv_lone.specs.Plan.{flat}
+use Rattle.xv_lone.specs.Cell.{cell}
+use Rattle.xv_lone.specs.Journal.{Load}
+use Rattle.xv_top.specs.Texts.{poked_text}
+use Rattle.xv_top.specs.World.{is_reset, entered}
+use Rattle.xv_top.specs.Answer.{refused, poke_at}
+use Rattle.xv_top.specs.Guest.{live_guest}
+use Rattle.xv_top.specs.Manager.{world_of}
+use Rattle.xv_top.proofs.ManagerLemmas.{gives_by, poke_is, poke_at_some, entered_one, same_guest}
+use Rattle.xv_top.proofs.manager.Manager.poke.Goals as goal
+
+pub returns-in_default-clause-answer : goal.returns-in_default-clause-answer
+returns-in_default-clause-answer c =
+    let bytes = c.args.machine.now.mem in
+    let w = world_of c.args.self.now bytes in
+    gives_by _ (refused w (codes "guest")) (poke_is w c.args.name.now c.args.gpa c.args.bytes.now None (c.in_default.ensures.guest bytes)) (record { text = c.refused.ensures; world = refl })
+
+pub returns-then-not-is_reset-clause-answer : goal.returns-then-not-is_reset-clause-answer
+returns-then-not-is_reset-clause-answer c =
+    let bytes = c.args.machine.now.mem in
+    let w = world_of c.args.self.now bytes in
+    gives_by _ (refused w (codes "state"))
+    (poke_is w c.args.name.now c.args.gpa c.args.bytes.now (Some (live_guest c.in-Some.guest bytes)) (c.in-Some.ensures.guest bytes)
+    ∙ cond-false (is_reset c.in-Some.guest.state) _ _ (sym c.if-not-is_reset.ensures))
+    (record { text = c.refused-then-not-is_reset.ensures; world = refl })
+
+pub returns-then-not-load-clause-answer : goal.returns-then-not-load-clause-answer
+returns-then-not-load-clause-answer c =
+    let bytes = c.args.machine.now.mem in
+    let w = world_of c.args.self.now bytes in
+    let name = c.args.name.now in
+    gives_by _ (refused w (codes "outside"))
+    (poke_is w name c.args.gpa c.args.bytes.now (Some (live_guest c.in-Some.guest bytes)) (c.in-Some.ensures.guest bytes)
+    ∙ (cond-true (is_reset c.in-Some.guest.state) _ _ (sym c.if-not-is_reset.ensures)
+    ∙ ap (poke_at w name c.args.gpa c.args.bytes.now) (c.if-not-load.ensures.outside refl)))
+    (record { text = c.refused-then-not-load.ensures; world = ap (world_of c.args.self.now) (c.if-not-load.ensures.untouched refl) })
+
+pub returns-clause-answer : goal.returns-clause-answer
+returns-clause-answer c =
+    let bytes = c.args.machine.now.mem in
+    let now = c.load.new.mem in
+    let m = c.args.self.now in
+    let w = world_of m bytes in
+    let name = c.args.name.now in
+    let piece = c.args.bytes.now in
+    let g = c.in-Some.guest in
+    let there = c.in-Some.ensures.there in
+    gives_by _ (record { text = poked_text name (length piece); world = entered name (Load c.args.gpa piece) w })
+    (poke_is w name c.args.gpa piece (Some (live_guest g bytes)) (c.in-Some.ensures.guest bytes)
+    ∙ (cond-true (is_reset g.state) _ _ (sym c.if-not-is_reset.ensures)
+    ∙ poke_at_some w name c.args.gpa piece (cell (flat g.pages) c.args.gpa (length piece)) (c.if-not-load.ensures.inside refl)))
+    (record {
+      text = c.poked.ensures ∙ ap (λ n. poked_text n (length piece)) c.bytes.ensures.value;
+      world = same_guest m g now there.0
+          ∙ entered_one m g g bytes now name (Load c.args.gpa piece) there.0 there.1 (ap (λ l. record (live_guest g bytes) { machine = l }) (c.if-not-load.ensures.loaded refl));
+    })

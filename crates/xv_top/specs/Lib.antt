@@ -1,0 +1,15 @@
+pub mod Answer
+pub mod Boot
+pub mod Guest
+pub mod Hart
+pub mod Machine
+pub mod Manager
+pub mod Script
+pub mod Texts
+pub mod Transcript
+pub mod World
+pub use Rattle.xv_base.specs.Fault
+pub use Rattle.xv_base.specs.Name
+pub use Rattle.xv_base.specs.Number
+pub use Rattle.xv_base.specs.Text
+pub use Rattle.xv_outside.specs.Outside

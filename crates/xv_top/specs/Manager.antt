@@ -1,0 +1,65 @@
+-- What the manager in the program is: a world, over host memory.
+use Rattle.std.specs.Prelude.{ℕ, ◌≡◌, ◌+◌, ◌*◌, ◌^◌, ◌<◌, ◌≤◌, List, [], ◌∷◌, length, replicate, Option, Some, None}
+use Rattle.xv_top.specs.declared.guest.Guest.{Guest}
+use Rattle.xv_top.specs.declared.command.Command.{Command}
+use Rattle.xv_top.specs.declared.command.Command.TheVariants.{Flat, Poke, Kick, Regs, Run}
+use Rattle.xv_top.specs.declared.manager.Manager.{Manager}
+use Rattle.xv_top.specs.declared.manager.Turned.{Turned}
+use Rattle.xv_top.specs.declared.manager.Turned.TheVariants.{Idle, Made, Unbuilt}
+use Rattle.xv_top.specs.World.{LiveGuest, World, RunSoFar, one_turn, pick}
+use Rattle.xv_top.specs.Answer.{Answer}
+use Rattle.xv_top.specs.Guest.{live_guest, IsHeld}
+
+abbrev pub guests_of : Option Guest → List ℕ → List LiveGuest
+guests_of None bytes = []
+guests_of (Some g) bytes = live_guest g bytes ∷ []
+
+-- the world that the manager keeps, over these host bytes
+abbrev pub world_of : Manager → List ℕ → World
+world_of m bytes = record { pool = m.pool; clock = m.clock; tick = m.tick; turns = m.turns; guests = guests_of m.guest bytes }
+
+-- what an answer is: this text, and this world
+pub record Gives (a : Answer) (printed : List ℕ) (after : World) : Type 0 where
+  pub text : printed ≡ a.text
+  pub world : after ≡ a.world
+
+-- host memory is all zeros before the first guest, and has room for the guest after that
+abbrev pub GuestIsSound : Option Guest → List ℕ → Type 0
+GuestIsSound None bytes = bytes ≡ replicate (length bytes) 0
+GuestIsSound (Some g) bytes = IsHeld g (length bytes)
+
+-- the manager's world has room in these host bytes
+pub record IsSound (m : Manager) (bytes : List ℕ) : Type 0 where
+  pub pool : 4096 * (64 + m.pool) ≤ length bytes
+  pub small : length bytes < 2 ^ 45
+  pub turns : m.turns ≤ 1000000
+  pub guest : GuestIsSound m.guest bytes
+
+-- a command keeps the ranges of the script's grammar
+abbrev pub IsInRange : Command → Type 0
+IsInRange (Flat name pages) = (0 < pages) × (pages ≤ 131072)
+IsInRange (Poke name gpa bytes) = Unit {0}
+IsInRange (Kick name) = Unit {0}
+IsInRange (Regs name vcpu) = Unit {0}
+IsInRange (Run turns) = (0 < turns) × (turns ≤ 100000)
+
+abbrev pub idle_of : Turned → ℕ
+idle_of Idle = 1
+idle_of Made = 0
+idle_of (Unbuilt pc) = 0
+
+abbrev pub unbuilt_of : Turned → Option ℕ
+unbuilt_of Idle = None
+unbuilt_of Made = None
+unbuilt_of (Unbuilt pc) = Some pc
+
+-- a run that has come to this world, and met no step that isn't built
+abbrev pub going : World → ℕ → ℕ → RunSoFar
+going w idle work = record { world = w; idle = idle; work = work; unbuilt = None }
+
+-- the turn that a run makes after so many idle turns and lone steps, by what the manager says of it
+pub record IsTurn (before after : World) (turned : Turned) (taken idled worked : ℕ) : Type 0 where
+  pub world : (one_turn (going before idled worked) (pick before)).world ≡ after
+  pub idle : (one_turn (going before idled worked) (pick before)).idle ≡ idled + idle_of turned
+  pub unbuilt : (one_turn (going before idled worked) (pick before)).unbuilt ≡ unbuilt_of turned
+  pub work : (one_turn (going before idled worked) (pick before)).work ≤ worked + taken

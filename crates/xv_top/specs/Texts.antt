@@ -1,0 +1,94 @@
+-- The texts of the answers.
+use Rattle.std.specs.Prelude.{ℕ, zero, suc, ◌+◌, ◌%◌, ◌==◌, Bool, true, false, if◌then◌else◌, List, [], ◌∷◌, ◌++◌, length, slice_index, decimal, codes}
+use Rattle.xv_base.specs.Text.{hex16}
+use Rattle.xv_csr.specs.declared.SCsrs.{SCsrs}
+use Rattle.xv_lone.specs.declared.vcpu.VcpuView.{VcpuView}
+use Rattle.xv_lone.specs.declared.vcpu.HartState.{HartState}
+use Rattle.xv_lone.specs.declared.vcpu.HartState.TheVariants.{Started, Waiting, Suspended, Stopped}
+use Rattle.xv_lone.specs.Plan.{Plan, need}
+
+-- the end of a line
+abbrev pub line_end : List ℕ
+line_end = 0x0A ∷ []
+
+-- a line that refuses a command
+unfoldable pub refused_text : List ℕ → List ℕ
+refused_text word = codes "refused " ++ word ++ line_end
+
+-- more frames are needed than are free
+unfoldable pub frames_text : ℕ → ℕ → List ℕ
+frames_text needed free = codes "refused frames need " ++ decimal needed ++ codes " free " ++ decimal free ++ line_end
+
+unfoldable pub created_text : List ℕ → ℕ → ℕ → ℕ → List ℕ
+created_text name vcpus regions frames =
+    codes "created " ++ name ++ codes " vcpus " ++ decimal vcpus ++ codes " regions " ++ decimal regions ++ codes " frames " ++ decimal frames ++ line_end
+
+unfoldable pub poked_text : List ℕ → ℕ → List ℕ
+poked_text name count = codes "poked " ++ name ++ codes " " ++ decimal count ++ line_end
+
+unfoldable pub kicked_text : List ℕ → List ℕ
+kicked_text name = codes "kicked " ++ name ++ line_end
+
+unfoldable pub ran_text : ℕ → ℕ → ℕ → List ℕ
+ran_text turns idle clock = codes "ran " ++ decimal turns ++ codes " idle " ++ decimal idle ++ codes " now " ++ decimal clock ++ line_end
+
+-- a step at this pc isn't built
+unfoldable pub unbuilt_text : ℕ → List ℕ
+unbuilt_text pc = codes "unbuilt " ++ hex16 pc ++ line_end
+
+-- a script that isn't built
+unfoldable pub script_text : List ℕ
+script_text = codes "script 0 unbuilt" ++ line_end
+
+abbrev pub hart_state_text : HartState → List ℕ
+hart_state_text Started = codes "started"
+hart_state_text Waiting = codes "waiting"
+hart_state_text Suspended = codes "suspended"
+hart_state_text Stopped = codes "stopped"
+
+abbrev pub mode_text : Bool → List ℕ
+mode_text true = codes "U"
+mode_text false = codes "S"
+
+-- a value with its name: the name, =, and 16 digits
+unfoldable pub named_text : List ℕ → ℕ → List ℕ
+named_text name value = name ++ codes "=" ++ hex16 value
+
+-- four registers make a line
+abbrev pub register_end : ℕ → List ℕ
+register_end i = if i % 4 == 3 then line_end else codes " "
+
+-- register i, with what stands behind it
+unfoldable pub register_text : List ℕ → ℕ → List ℕ
+register_text x i = codes "x" ++ decimal i ++ codes "=" ++ hex16 (slice_index x i) ++ register_end i
+
+-- the first n registers
+unfoldable pub registers_text : List ℕ → ℕ → List ℕ
+registers_text x zero = []
+registers_text x (suc n) = registers_text x n ++ register_text x n
+
+abbrev pub ssip_value : Bool → ℕ
+ssip_value true = 2
+ssip_value false = 0
+
+unfoldable pub status_line : SCsrs → List ℕ
+status_line c =
+    named_text (codes "sstatus") c.sstatus ++ codes " " ++ named_text (codes "sie") c.sie ++ codes " " ++ named_text (codes "ssip") (ssip_value c.ssip) ++ codes " " ++ named_text (codes "stvec") c.stvec ++ line_end
+
+unfoldable pub trap_line : SCsrs → List ℕ
+trap_line c =
+    named_text (codes "sscratch") c.sscratch ++ codes " " ++ named_text (codes "sepc") c.sepc ++ codes " " ++ named_text (codes "scause") c.scause ++ codes " " ++ named_text (codes "stval") c.stval ++ line_end
+
+unfoldable pub last_line : SCsrs → ℕ → List ℕ
+last_line c timer =
+    named_text (codes "satp") c.satp ++ codes " " ++ named_text (codes "scounteren") c.scounteren ++ codes " " ++ named_text (codes "senvcfg") c.senvcfg ++ codes " " ++ named_text (codes "timer") timer ++ line_end
+
+-- the line that heads the registers of VCPU number vcpu
+unfoldable pub regs_head : List ℕ → ℕ → VcpuView → List ℕ
+regs_head name vcpu v =
+    codes "regs " ++ name ++ codes " " ++ decimal vcpu ++ codes " " ++ hart_state_text v.hart ++ codes " " ++ mode_text v.user ++ codes " pc=" ++ hex16 v.pc ++ line_end
+
+-- the twelve lines of a VCPU's registers
+unfoldable pub regs_text : List ℕ → ℕ → VcpuView → List ℕ
+regs_text name vcpu v =
+    regs_head name vcpu v ++ registers_text v.x 32 ++ status_line v.csrs ++ trap_line v.csrs ++ last_line v.csrs v.timer

@@ -1,0 +1,347 @@
+//! The manager: what each command does to the guests, and what it answers.
+ghost use Rattle.std.specs.Prelude.{◌≡◌, ℕ, ◌+◌, ◌-◌, ◌*◌, ◌^◌, ◌<◌, ◌≤◌, List, [], length, Option, option_map, IfSome, true};
+ghost use Rattle.std.specs.Str.{bytes_eq};
+ghost use Rattle.xv_top.specs.Hart.{taken_by};
+
+use crate::command::Command;
+use crate::frames::frames_needed;
+use crate::guest::Guest;
+use crate::machine::Machine;
+use crate::printer::Printer;
+use crate::report;
+use std::sync::ledger::Ledger;
+use xv_base::GuestName;
+use xv_lone::TurnEnd;
+use xv_mem::Steps;
+
+/// Frames of host memory behind which the pool begins: 16 root tables of 4 frames.
+const ROOT_FRAMES: u32 = 64;
+
+/// The tick before a script changes it.
+const FIRST_TICK: u64 = 100;
+
+/// The most turns that one script may have.
+const MOST_TURNS: u32 = 1_000_000;
+
+/// The guests, the clock and the scheduler's counts.
+#[derive(Clone, Copy)]
+pub struct Manager {
+    pool: u32,
+    clock: u64,
+    tick: u64,
+    turns: u32,
+    guest: Option<Guest>,
+}
+
+/// What one turn came to.
+#[derive(Clone, Copy)]
+pub enum Turned {
+    /// No VCPU was ready.
+    Idle,
+    /// A VCPU had its turn.
+    Made,
+    /// A VCPU met a step that isn't built, at this pc.
+    Unbuilt(u64),
+}
+
+/// What a run of turns came to: its idle turns, and the pc of a step that isn't built.
+#[derive(Clone, Copy)]
+pub struct RunEnd {
+    pub idle: u32,
+    pub unbuilt: Option<u64>,
+}
+
+impl Manager {
+    ghost use Rattle.xv_top.specs.World as worlds;
+    ghost use Rattle.std.specs.Prelude.{replicate};
+    ghost use Rattle.xv_top.specs.Transcript.{pool_frames};
+    ghost use Rattle.xv_top.specs.Answer as answers;
+    ghost use Rattle.xv_top.specs.Guest.{live_guest};
+    ghost use Rattle.xv_top.specs.Manager.{world_of, Gives, IsSound, IsInRange, IsTurn};
+
+    /// A manager with no guest yet, over a machine whose memory is zeros.
+    pub fn new(machine: &Machine) -> Manager
+        requires frames { 4096 * 64 ≤ length machine.now.mem }
+        requires small { length machine.now.mem < 2 ^ 44 }
+        requires zeros { machine.now.mem ≡ replicate (length machine.now.mem) 0 }
+        ensures world { (mib : ℕ) (bytes : List ℕ) → length machine.now.mem ≡ 4096 * (256 * mib) →
+            world_of result bytes ≡ worlds.first_world (pool_frames mib) }
+        ensures sound { IsSound result machine.now.mem }
+    {
+        Manager {
+            pool: machine.mem.frames() - ROOT_FRAMES,
+            clock: 0,
+            tick: FIRST_TICK,
+            turns: 0,
+            guest: None,
+        }
+    }
+
+    /// The live guest of that name.
+    fn named(&self, name: &GuestName) -> Option<Guest>
+        ensures guest { (bytes : List ℕ) → worlds.guest_named name.now (world_of self.now bytes)
+            ≡ option_map (λ g. live_guest g bytes) result }
+        ensures there { IfSome result (λ g. (self.now.guest ≡ Some g) × (bytes_eq g.name name.now ≡ true)) }
+    {
+        let guest = self.guest?;
+        if guest.name.bytes() == name.bytes() {
+            Some(guest)
+        } else {
+            None
+        }
+    }
+
+    /// `guest flat NAME PAGES`
+    fn flat(&mut self, name: &GuestName, pages: u32, printer: &mut Printer)
+        requires empty { printer.old ≡ [] }
+        requires pages { (0 < pages) × (pages ≤ 131072) }
+        ensures answer { (bytes : List ℕ) → IsSound self.old bytes →
+            Gives (answers.answer (world_of self.old bytes) (Command.Flat name.now pages))
+            printer.new (world_of self.new bytes) }
+        ensures sound { (bytes : List ℕ) → IsSound self.old bytes → IsSound self.new bytes }
+    {
+        if self.named(name).is_some() {
+            return report::refused(printer, b"used");
+        }
+        if self.guest.is_some() {
+            return report::refused(printer, b"unbuilt");
+        }
+        let needed = frames_needed(pages);
+        let free = u64::from(self.pool);
+        if free < needed {
+            return report::frames(printer, needed, free);
+        }
+        self.guest = Some(Guest::new(*name, pages, self.clock));
+        report::created(printer, name.bytes(), 1, 1, needed);
+    }
+
+    /// `guest poke NAME GPA HEX`
+    fn poke(
+        &self,
+        machine: &mut Machine,
+        name: &GuestName,
+        gpa: u64,
+        bytes: &[u8],
+        printer: &mut Printer,
+    )
+        requires empty { printer.old ≡ [] }
+        requires sound { IsSound self.now machine.old.mem }
+        ensures answer { Gives (answers.answer (world_of self.now machine.old.mem) (Command.Poke name.now gpa bytes.now))
+            printer.new (world_of self.now machine.new.mem) }
+        ensures sound { IsSound self.now machine.new.mem }
+        ensures size { length machine.new.mem ≡ length machine.old.mem }
+        ensures hart { machine.new.hart ≡ machine.old.hart }
+    {
+        let Some(guest) = self.named(name) else {
+            return report::refused(printer, b"guest");
+        };
+        if !guest.is_reset() {
+            return report::refused(printer, b"state");
+        }
+        if !guest.load(&mut machine.mem, gpa, bytes) {
+            return report::refused(printer, b"outside");
+        }
+        report::poked(printer, name.bytes(), bytes.len() as u64);
+    }
+
+    /// `guest kick NAME`
+    fn kick(&mut self, name: &GuestName, printer: &mut Printer)
+        requires { printer.old ≡ [] }
+        ensures answer { (bytes : List ℕ) → Gives (answers.answer (world_of self.old bytes) (Command.Kick name.now))
+            printer.new (world_of self.new bytes) }
+        ensures sound { (bytes : List ℕ) → IsSound self.old bytes → IsSound self.new bytes }
+    {
+        let Some(mut guest) = self.named(name) else {
+            return report::refused(printer, b"guest");
+        };
+        if !guest.is_reset() {
+            return report::refused(printer, b"state");
+        }
+        guest.kick();
+        self.guest = Some(guest);
+        report::kicked(printer, name.bytes());
+    }
+
+    /// `guest regs NAME VCPU`
+    fn regs(&self, name: &GuestName, vcpu: u64, printer: &mut Printer)
+        requires { printer.old ≡ [] }
+        ensures { (bytes : List ℕ) → Gives (answers.answer (world_of self.now bytes) (Command.Regs name.now vcpu))
+            printer.new (world_of self.now bytes) }
+    {
+        let Some(guest) = self.named(name) else {
+            return report::refused(printer, b"guest");
+        };
+        if vcpu != 0 {
+            return report::refused(printer, b"vcpu");
+        }
+        report::regs(printer, name.bytes(), vcpu, &guest.view);
+    }
+
+    /// Time goes on by one tick, and a turn is counted.
+    fn pass(&mut self)
+        requires { self.old.turns < MOST_TURNS }
+        ensures world { (bytes : List ℕ) → world_of self.new bytes ≡ worlds.passed (world_of self.old bytes) }
+        ensures guest { self.new.guest ≡ self.old.guest }
+        ensures pool { self.new.pool ≡ self.old.pool }
+        ensures turns { self.new.turns ≡ self.old.turns + 1 }
+    {
+        self.clock = self.clock.wrapping_add(self.tick);
+        self.turns += 1;
+    }
+
+    /// One turn of the world: the guest's, where it is ready, or an idle one.
+    fn turn<L: Ledger>(&mut self, machine: &mut Machine, steps: &mut Steps<L>) -> Turned
+        requires sound { IsSound self.old machine.old.mem }
+        requires turns { self.old.turns < MOST_TURNS }
+        requires few { taken_by machine.old.hart < 2 ^ 62 }
+        ensures turn { (idle work : ℕ) → IsTurn (world_of self.old machine.old.mem) (world_of self.new machine.new.mem)
+            result (taken_by machine.new.hart - taken_by machine.old.hart) idle work }
+        ensures sound { IsSound self.new machine.new.mem }
+        ensures size { length machine.new.mem ≡ length machine.old.mem }
+        ensures turns { self.new.turns ≤ self.old.turns + 1 }
+        ensures taken { taken_by machine.old.hart ≤ taken_by machine.new.hart }
+        ensures few { taken_by machine.new.hart ≤ taken_by machine.old.hart + 1000 }
+    {
+        let Some(mut guest) = self.ready() else {
+            self.pass();
+            return Turned::Idle;
+        };
+        let end = guest.turn(machine, steps);
+        self.guest = Some(guest);
+        match end {
+            TurnEnd::Spent => {
+                self.pass();
+                Turned::Made
+            }
+            TurnEnd::Unbuilt => Turned::Unbuilt(guest.view.pc),
+        }
+    }
+
+    /// The guest whose turn it is.
+    fn ready(&self) -> Option<Guest>
+        ensures picked { (bytes : List ℕ) → worlds.pick (world_of self.now bytes)
+            ≡ option_map (λ g. live_guest g bytes) result }
+        ensures there { IfSome result (λ g. self.now.guest ≡ Some g) }
+    {
+        let guest = self.guest?;
+        if guest.is_ready() { Some(guest) } else { None }
+    }
+
+    /// Turns of the world, up to the first that meets a step which isn't built.
+    fn make_turns<L: Ledger>(
+        &mut self,
+        machine: &mut Machine,
+        turns: u32,
+        steps: &mut Steps<L>,
+    ) -> RunEnd
+        requires sound { IsSound self.old machine.old.mem }
+        requires turns { self.old.turns + turns ≤ MOST_TURNS }
+        requires few { taken_by machine.old.hart < 2 ^ 61 }
+
+        ensures world { (worlds.run_of turns (world_of self.old machine.old.mem)).world
+            ≡ world_of self.new machine.new.mem }
+        ensures idle { (worlds.run_of turns (world_of self.old machine.old.mem)).idle ≡ result.idle }
+        ensures unbuilt { (worlds.run_of turns (world_of self.old machine.old.mem)).unbuilt ≡ result.unbuilt }
+        ensures work { taken_by machine.old.hart + (worlds.run_of turns (world_of self.old machine.old.mem)).work
+            ≤ taken_by machine.new.hart }
+        ensures sound { IsSound self.new machine.new.mem }
+        ensures size { length machine.new.mem ≡ length machine.old.mem }
+        ensures few { taken_by machine.new.hart ≤ taken_by machine.old.hart + 1000 * turns }
+    {
+        let mut idle = 0;
+        for _made in 0..turns {
+            let turned = self.turn(machine, steps);
+            if let Turned::Unbuilt(pc) = turned {
+                return RunEnd {
+                    idle,
+                    unbuilt: Some(pc),
+                };
+            }
+            idle += turned.idle();
+        }
+        RunEnd {
+            idle,
+            unbuilt: None,
+        }
+    }
+
+    /// `run TURNS`
+    fn run<L: Ledger>(
+        &mut self,
+        machine: &mut Machine,
+        turns: u32,
+        printer: &mut Printer,
+        steps: &mut Steps<L>,
+    )
+        requires empty { printer.old ≡ [] }
+        requires sound { IsSound self.old machine.old.mem }
+        requires few { taken_by machine.old.hart < 2 ^ 61 }
+        ensures answer { Gives (answers.answer (world_of self.old machine.old.mem) (Command.Run turns))
+            printer.new (world_of self.new machine.new.mem) }
+        ensures sound { IsSound self.new machine.new.mem }
+        ensures size { length machine.new.mem ≡ length machine.old.mem }
+        ensures work { taken_by machine.old.hart + answers.work_in (world_of self.old machine.old.mem) (Command.Run turns)
+            ≤ taken_by machine.new.hart }
+        ensures few { taken_by machine.new.hart ≤ taken_by machine.old.hart + 2 ^ 30 }
+    {
+        if MOST_TURNS - self.turns < turns {
+            return report::refused(printer, b"turns");
+        }
+        let end = self.make_turns(machine, turns, steps);
+        match end.unbuilt {
+            None => report::ran(printer, u64::from(turns), u64::from(end.idle), self.clock),
+            Some(pc) => report::unbuilt(printer, pc),
+        }
+    }
+
+    #[tactic(auto, unfolding(crate::specs::Answer::work_in))]
+    /// One command: what it does, and its answer in the printer.
+    pub fn apply<L: Ledger>(
+        &mut self,
+        machine: &mut Machine,
+        command: &Command,
+        printer: &mut Printer,
+        steps: &mut Steps<L>,
+    )
+        requires empty { printer.old ≡ [] }
+        requires range { IsInRange command.now }
+        requires sound { IsSound self.old machine.old.mem }
+        requires few { taken_by machine.old.hart < 2 ^ 61 }
+        ensures answer { Gives (answers.answer (world_of self.old machine.old.mem) command.now)
+            printer.new (world_of self.new machine.new.mem) }
+        ensures sound { IsSound self.new machine.new.mem }
+        ensures size { length machine.new.mem ≡ length machine.old.mem }
+        ensures work { taken_by machine.old.hart + answers.work_in (world_of self.old machine.old.mem) command.now
+            ≤ taken_by machine.new.hart }
+        ensures few { taken_by machine.new.hart ≤ taken_by machine.old.hart + 2 ^ 30 }
+    {
+        match command {
+            Command::Flat(name, pages) => self.flat(name, *pages, printer),
+            Command::Poke(name, gpa, bytes) => self.poke(
+                machine,
+                name,
+                *gpa,
+                bytes.0.as_slice(),
+                printer,
+            ),
+            Command::Kick(name) => self.kick(name, printer),
+            Command::Regs(name, vcpu) => self.regs(name, *vcpu, printer),
+            Command::Run(turns) => self.run(machine, *turns, printer, steps),
+        }
+    }
+}
+
+impl Turned {
+    ghost use Rattle.xv_top.specs.Manager.{idle_of};
+
+    /// How many idle turns it was.
+    fn idle(self) -> u32
+        ensures count { result ≡ idle_of self }
+        ensures one { result ≤ 1 }
+    {
+        match self {
+            Turned::Idle => 1,
+            Turned::Made | Turned::Unbuilt(_) => 0,
+        }
+    }
+}
