@@ -1,0 +1,45 @@
+//! The program `xv`: runs a script of manager commands from standard input, and writes the answers to
+//! standard output.
+#![tactic(auto)]
+
+mod fault;
+
+use fault::Fault;
+use std::process::ExitCode;
+use std::{env, io};
+use xv_outside::{EmptyFiles, StdSink, StdSource};
+use xv_top::{Machine, boot};
+
+/// The status for want of memory.
+const NO_MEMORY: u8 = 7;
+
+fn main(rt: HostRuntime) -> ExitCode {
+    let status = run(&rt);
+    if let Some(fault) = Fault::of(status) {
+        // A failing standard error changes no status.
+        let _ = eprintln!(rt; "{fault}");
+    }
+    ExitCode::from(status)
+}
+
+/// Runs the program with the words after its name, over the process's own streams.
+fn run(rt: &HostRuntime) -> u8 {
+    let Ok(words) = words_of(rt) else {
+        return NO_MEMORY;
+    };
+    let mut source = StdSource::new(rt.stdin());
+    let mut sink = StdSink::new(rt.stdout());
+    let mut machine = Machine::bare();
+    boot(
+        rt.alloc(),
+        &words,
+        &mut source,
+        &mut sink,
+        &mut EmptyFiles,
+        &mut machine,
+    )
+}
+
+fn words_of(rt: &HostRuntime) -> io::Result<Vec<String>> {
+    Ok(env::args(rt)?.skip(1).collect(rt.alloc())?)
+}

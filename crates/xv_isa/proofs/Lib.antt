@@ -1,0 +1,4 @@
+pub mod Misses
+pub mod OneRow
+pub mod RoundTrip
+pub mod Shapes

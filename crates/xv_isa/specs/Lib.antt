@@ -1,0 +1,5 @@
+pub mod Effects
+pub mod Encoding
+pub mod Operands
+pub mod Results
+pub mod Rows

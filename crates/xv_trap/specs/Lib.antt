@@ -1,0 +1,3 @@
+pub use Rattle.xv_csr.specs.Kept
+pub use Rattle.xv_csr.specs.Pending
+pub use Rattle.xv_csr.specs.Trap
