@@ -17,6 +17,7 @@ use Rattle.xv_top.specs.Manager.{world_of, guests_of, IsInRange}
 use Rattle.xv_top.specs.Script.{commands, commands_of, lines, IsBuilt}
 use Rattle.xv_top.specs.Texts.{script_text}
 use Rattle.xv_top.specs.Transcript.{answers, world_after, work_after, transcript, transcript_of, pool_frames}
+use Rattle.xv_top.proofs.JournalLemmas.{replayed}
 use Rattle.xv_top.specs.Boot.{IsTextOf, IsScriptOf, IsServed, IsRun, IsRefused, IsCutShort, HoldsWorld, emptied, most_read}
 
 cases_le : (m n : ℕ) → (m ≤ n) ⊎ (n < m)
@@ -100,6 +101,7 @@ module _ (mib : ℕ) (left_old left_new taken_old taken_new : Option (List ℕ))
       taken = served.taken ∙ ap (taken_with taken_old) (transcript_same mib left_old text told);
       size = served.size;
       memory = served.memory;
+      journals = served.journals;
       stepped = served.stepped;
     };
   }
@@ -133,5 +135,6 @@ module _ (mib : ℕ) (text : List ℕ) (cs all : List Command) (w : World) (gram
     taken = taken ∙ ap (taken_with taken_old) answers_are;
     size = size;
     memory = subst (λ x. HoldsWorld machine.mem x.guests) (world ∙ (ap (world_after w) same ∙ ap (λ x. world_after x cs) start)) (holds_world m machine.mem);
+    journals = replayed (pool_frames mib) cs;
     stepped = omega (arith, work, ap (work_after w) same, ap (λ x. work_after x cs) start);
   }

@@ -11,3 +11,4 @@ mod ReadLemmas
 mod FoldLemmas
 mod BootLemmas
 mod RowsLemmas
+mod JournalLemmas

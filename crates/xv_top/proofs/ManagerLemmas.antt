@@ -67,7 +67,7 @@ abbrev pub no_guest : Manager → World
 no_guest m = record { pool = m.pool; clock = m.clock; tick = m.tick; turns = m.turns; guests = [] }
 
 abbrev pub no_frames : Manager → ℕ → Answer
-no_frames m pages = record { text = frames_text (need (flat pages)) m.pool; world = no_guest m }
+no_frames m pages = record { text = frames_text (need (flat pages)) m.pool; world = no_guest m; entered = [] }
 
 sub_zero : (n : ℕ) → n - 0 ≡ n
 sub_zero n = omega arith
@@ -75,7 +75,7 @@ sub_zero n = omega arith
 pub flat_alone : (m : Manager) (bytes name : List ℕ) (pages : ℕ) → m.guest ≡ None → flat_answer (world_of m bytes) name pages ≡ cond (ltb m.pool (need (flat pages))) (no_frames m pages) (created (no_guest m) name (flat pages))
 flat_alone m bytes name pages none =
     ap (λ o. flat_answer (record { pool = m.pool; clock = m.clock; tick = m.tick; turns = m.turns; guests = guests_of o bytes }) name pages) none
-    ∙ ap (λ f. cond (ltb f (need (flat pages))) (record { text = frames_text (need (flat pages)) f; world = no_guest m }) (created (no_guest m) name (flat pages))) (sub_zero m.pool)
+    ∙ ap (λ f. cond (ltb f (need (flat pages))) (record { text = frames_text (need (flat pages)) f; world = no_guest m; entered = [] }) (created (no_guest m) name (flat pages))) (sub_zero m.pool)
 
 -- a new guest's memory is zeros, since all host memory is
 pub born : (m : Manager) (bytes name : List ℕ) (pages : ℕ) → bytes ≡ replicate (length bytes) 0 → host_base + 4096 * pages ≤ length bytes → world_of (record m { guest = Some (new_guest name pages m.clock) }) bytes ≡ (created (no_guest m) name (flat pages)).world
@@ -84,7 +84,7 @@ born m bytes name pages zeros fits =
     ap born_with (ap (λ b. range b host_base (4096 * pages)) zeros ∙ range-replicate (length bytes) host_base (4096 * pages) fits)
 
 -- bytes that have a cell are poked
-pub poke_at_some : (w : World) (name : List ℕ) (gpa : ℕ) (bytes : List ℕ) (o : Option Cell) → is_some o ≡ true → poke_at w name gpa bytes o ≡ record { text = poked_text name (length bytes); world = entered name (Load gpa bytes) w }
+pub poke_at_some : (w : World) (name : List ℕ) (gpa : ℕ) (bytes : List ℕ) (o : Option Cell) → is_some o ≡ true → poke_at w name gpa bytes o ≡ record { text = poked_text name (length bytes); world = entered name (Load gpa bytes) w; entered = record { name = name; entry = Load gpa bytes } ∷ [] }
 poke_at_some w name gpa bytes None h = cc
 poke_at_some w name gpa bytes (Some c) h = refl
 

@@ -4,24 +4,27 @@ use Rattle.xv_lone.specs.declared.vcpu.VcpuView.{VcpuView}
 use Rattle.xv_lone.specs.Plan.{Plan, flat, need}
 use Rattle.xv_lone.specs.Cell.{Cell, cell}
 use Rattle.xv_lone.specs.Machine.{new_machine}
-use Rattle.xv_lone.specs.Journal.{Load, Kick}
+use Rattle.xv_lone.specs.Journal.{Born, Load, Kick}
 use Rattle.xv_top.specs.declared.command.Command.{Command}
 use Rattle.xv_top.specs.declared.command.Command.TheVariants as command
 use Rattle.xv_top.specs.Texts.{refused_text, frames_text, created_text, poked_text, kicked_text, ran_text, unbuilt_text, regs_text}
-use Rattle.xv_top.specs.World.{LiveGuest, World, RunSoFar, free, guest_named, entered, is_reset, run_of}
+use Rattle.xv_top.specs.World.{LiveGuest, World, Entered, RunSoFar, free, guest_named, entered, is_reset, run_of}
 
+-- the text, the world after it, and what was entered into the journals of guests
 pub record Answer : Type 0 where
   pub text : List ℕ
   pub world : World
+  pub entered : List Entered
 
 abbrev pub refused : World → List ℕ → Answer
-refused w word = record { text = refused_text word; world = w }
+refused w word = record { text = refused_text word; world = w; entered = [] }
 
 -- a guest of this plan is born
 abbrev pub created : World → List ℕ → Plan → Answer
 created w name plan = record {
   text = created_text name (length plan.starts) (length plan.regions) (need plan);
   world = record w { guests = w.guests ++ record { name = name; plan = plan; machine = new_machine plan w.clock } ∷ [] };
+  entered = record { name = name; entry = Born w.clock } ∷ [];
 }
 
 -- `guest flat`: a second guest isn't built
@@ -29,13 +32,13 @@ abbrev pub flat_answer : World → List ℕ → ℕ → Answer
 flat_answer w name pages =
     if is_some (guest_named name w) then refused w (codes "used")
     else (if nat_lt 0 (length w.guests) then refused w (codes "unbuilt")
-    else (if nat_lt (free w) (need (flat pages)) then record { text = frames_text (need (flat pages)) (free w); world = w }
+    else (if nat_lt (free w) (need (flat pages)) then record { text = frames_text (need (flat pages)) (free w); world = w; entered = [] }
     else created w name (flat pages)))
 
 -- bytes for a guest physical address, which is a cell or none
 abbrev pub poke_at : World → List ℕ → ℕ → List ℕ → Option Cell → Answer
 poke_at w name gpa bytes None = refused w (codes "outside")
-poke_at w name gpa bytes (Some c) = record { text = poked_text name (length bytes); world = entered name (Load gpa bytes) w }
+poke_at w name gpa bytes (Some c) = record { text = poked_text name (length bytes); world = entered name (Load gpa bytes) w; entered = record { name = name; entry = Load gpa bytes } ∷ [] }
 
 abbrev pub poke_guest : World → List ℕ → ℕ → List ℕ → Option LiveGuest → Answer
 poke_guest w name gpa bytes None = refused w (codes "guest")
@@ -45,11 +48,11 @@ poke_guest w name gpa bytes (Some g) =
 abbrev pub kick_guest : World → List ℕ → Option LiveGuest → Answer
 kick_guest w name None = refused w (codes "guest")
 kick_guest w name (Some g) =
-    if is_reset g.machine.state then record { text = kicked_text name; world = entered name Kick w } else refused w (codes "state")
+    if is_reset g.machine.state then record { text = kicked_text name; world = entered name Kick w; entered = record { name = name; entry = Kick } ∷ [] } else refused w (codes "state")
 
 abbrev pub regs_of_vcpu : World → List ℕ → ℕ → Option VcpuView → Answer
 regs_of_vcpu w name vcpu None = refused w (codes "vcpu")
-regs_of_vcpu w name vcpu (Some v) = record { text = regs_text name vcpu v; world = w }
+regs_of_vcpu w name vcpu (Some v) = record { text = regs_text name vcpu v; world = w; entered = [] }
 
 abbrev pub regs_guest : World → List ℕ → ℕ → Option LiveGuest → Answer
 regs_guest w name vcpu None = refused w (codes "guest")
@@ -60,8 +63,8 @@ abbrev pub most_turns : ℕ
 most_turns = 1000000
 
 abbrev pub ran_answer : ℕ → RunSoFar → Option ℕ → Answer
-ran_answer turns r None = record { text = ran_text turns r.idle r.world.clock; world = r.world }
-ran_answer turns r (Some pc) = record { text = unbuilt_text pc; world = r.world }
+ran_answer turns r None = record { text = ran_text turns r.idle r.world.clock; world = r.world; entered = r.entered }
+ran_answer turns r (Some pc) = record { text = unbuilt_text pc; world = r.world; entered = r.entered }
 
 abbrev pub run_answer : World → ℕ → Answer
 run_answer w turns =

@@ -13,6 +13,7 @@ use Rattle.xv_top.specs.World.{LiveGuest, World, first_world}
 use Rattle.xv_top.specs.Guest.{host_base}
 use Rattle.xv_top.specs.Script.{commands}
 use Rattle.xv_top.specs.Texts.{script_text}
+use Rattle.xv_top.specs.Journals.{entered_by, AreReplayed}
 use Rattle.xv_top.specs.Transcript.{answers, world_after, work_after, pool_frames, transcript}
 
 -- the words that the program takes: `boot` alone
@@ -55,14 +56,16 @@ IsScriptOf (Some bytes) script = bytes ≡ script
 abbrev pub emptied : Option (List ℕ) → Option (List ℕ)
 emptied left = option_map (λ bytes. []) left
 
--- All commands of the script were run: the answers to them were taken and nothing else, and the machine
--- has stepped and holds what the world says.
+-- All commands of the script were run: the answers to them were taken and nothing else, the machine of
+-- each guest in the world is the replay of its own journal, and the hart has stepped and host memory holds
+-- what the world says.
 pub record IsServed (mib : ℕ) (script : List ℕ) (taken_old taken_new : Option (List ℕ)) (machine : Machine) : Type 0 where
   pub cs : List Command
   pub grammar : commands script ≡ Some cs
   pub taken : taken_new ≡ taken_with taken_old (transcript mib script)
   pub size : length machine.mem ≡ 4096 * (256 * mib)
   pub memory : HoldsWorld machine.mem (world_after (first_world (pool_frames mib)) cs).guests
+  pub journals : AreReplayed (entered_by (first_world (pool_frames mib)) cs) (world_after (first_world (pool_frames mib)) cs).guests
   pub stepped : work_after (first_world (pool_frames mib)) cs ≤ taken_by machine.hart
 
 -- The script was read to its end and served.

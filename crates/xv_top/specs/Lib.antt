@@ -2,6 +2,7 @@ pub mod Answer
 pub mod Boot
 pub mod Guest
 pub mod Hart
+pub mod Journals
 pub mod Machine
 pub mod Manager
 pub mod Script

@@ -6,7 +6,7 @@ use Rattle.xv_top.specs.declared.command.Command.TheVariants.{Flat, Poke, Kick, 
 use Rattle.xv_top.specs.declared.manager.Manager.{Manager}
 use Rattle.xv_top.specs.declared.manager.Turned.{Turned}
 use Rattle.xv_top.specs.declared.manager.Turned.TheVariants.{Idle, Made, Unbuilt}
-use Rattle.xv_top.specs.World.{LiveGuest, World, RunSoFar, one_turn, pick}
+use Rattle.xv_top.specs.World.{LiveGuest, World, Entered, RunSoFar, one_turn, pick}
 use Rattle.xv_top.specs.Answer.{Answer}
 use Rattle.xv_top.specs.Guest.{live_guest, IsHeld}
 
@@ -54,12 +54,12 @@ unbuilt_of Made = None
 unbuilt_of (Unbuilt pc) = Some pc
 
 -- a run that has come to this world, and met no step that isn't built
-abbrev pub going : World → ℕ → ℕ → RunSoFar
-going w idle work = record { world = w; idle = idle; work = work; unbuilt = None }
+abbrev pub going : World → ℕ → ℕ → List Entered → RunSoFar
+going w idle work entered = record { world = w; idle = idle; work = work; entered = entered; unbuilt = None }
 
 -- the turn that a run makes after so many idle turns and lone steps, by what the manager says of it
-pub record IsTurn (before after : World) (turned : Turned) (taken idled worked : ℕ) : Type 0 where
-  pub world : (one_turn (going before idled worked) (pick before)).world ≡ after
-  pub idle : (one_turn (going before idled worked) (pick before)).idle ≡ idled + idle_of turned
-  pub unbuilt : (one_turn (going before idled worked) (pick before)).unbuilt ≡ unbuilt_of turned
-  pub work : (one_turn (going before idled worked) (pick before)).work ≤ worked + taken
+pub record IsTurn (before after : World) (turned : Turned) (taken idled worked : ℕ) (before_it : List Entered) : Type 0 where
+  pub world : (one_turn (going before idled worked before_it) (pick before)).world ≡ after
+  pub idle : (one_turn (going before idled worked before_it) (pick before)).idle ≡ idled + idle_of turned
+  pub unbuilt : (one_turn (going before idled worked before_it) (pick before)).unbuilt ≡ unbuilt_of turned
+  pub work : (one_turn (going before idled worked before_it) (pick before)).work ≤ worked + taken

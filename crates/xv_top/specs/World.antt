@@ -1,6 +1,6 @@
 -- The world: the clock, the scheduler's counts, and the lone machines of the live guests. It has no
 -- host memory and no hart.
-use Rattle.std.specs.Prelude.{ℕ, ◌+◌, ◌-◌, ◌%◌, ◌^◌, Bool, true, false, ◌&&◌, if◌then◌else◌, List, [], ◌∷◌, map, find, sum_by, Option, Some, None, slice_get}
+use Rattle.std.specs.Prelude.{ℕ, ◌+◌, ◌-◌, ◌%◌, ◌^◌, Bool, true, false, ◌&&◌, if◌then◌else◌, List, [], ◌∷◌, ◌++◌, map, find, sum_by, Option, Some, None, slice_get}
 use Rattle.std.specs.Str.{bytes_eq}
 use Rattle.xv_lone.specs.declared.vcpu.VcpuView.{VcpuView}
 use Rattle.xv_lone.specs.declared.vcpu.HartState.{HartState}
@@ -78,17 +78,27 @@ pick w = find (is_ready 0) w.guests
 abbrev pub passed : World → World
 passed w = record w { clock = (w.clock + w.tick) % 2 ^ 64; turns = w.turns + 1 }
 
--- A run of turns so far: the world, its idle turns, the lone steps that were made, and the pc of a step
--- that isn't built, where one was met.
+-- an entry into the journal of the guest of a name
+pub record Entered : Type 0 where
+  pub name : List ℕ
+  pub entry : Entry
+
+-- A run of turns so far: the world, its idle turns, the lone steps that were made, what was entered into
+-- journals, and the pc of a step that isn't built, where one was met.
 pub record RunSoFar : Type 0 where
   pub world : World
   pub idle : ℕ
   pub work : ℕ
+  pub entered : List Entered
   pub unbuilt : Option ℕ
 
 abbrev pub pc_of : Option VcpuView → ℕ
 pc_of None = 0
 pc_of (Some v) = v.pc
+
+-- what a guest's turn enters
+abbrev pub turn_entered : World → LiveGuest → Entered
+turn_entered w g = record { name = g.name; entry = Turn 0 w.clock }
 
 -- guest g had a turn; one that met a step which isn't built doesn't count, though its steps were made
 abbrev pub after_turn : RunSoFar → LiveGuest → TurnEnd → RunSoFar
@@ -96,12 +106,14 @@ after_turn r g Spent = record {
   world = passed (entered g.name (Turn 0 r.world.clock) r.world);
   idle = r.idle;
   work = r.work + steps g.plan 0 g.machine;
+  entered = r.entered ++ turn_entered r.world g ∷ [];
   unbuilt = None;
 }
 after_turn r g Unbuilt = record {
   world = entered g.name (Turn 0 r.world.clock) r.world;
   idle = r.idle;
   work = r.work + steps g.plan 0 g.machine;
+  entered = r.entered ++ turn_entered r.world g ∷ [];
   unbuilt = Some (pc_of (slice_get (turn g.plan 0 g.machine).vcpus 0));
 }
 
@@ -120,4 +132,4 @@ next_turn r = next_unless r.unbuilt
 
 -- so many turns of the world
 unfoldable pub run_of : ℕ → World → RunSoFar
-run_of turns w = iterate next_turn turns (record { world = w; idle = 0; work = 0; unbuilt = None })
+run_of turns w = iterate next_turn turns (record { world = w; idle = 0; work = 0; entered = []; unbuilt = None })

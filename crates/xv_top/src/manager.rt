@@ -194,8 +194,8 @@ impl Manager {
         requires sound { IsSound self.old machine.old.mem }
         requires turns { self.old.turns < MOST_TURNS }
         requires few { taken_by machine.old.hart < 2 ^ 62 }
-        ensures turn { (idle work : ℕ) → IsTurn (world_of self.old machine.old.mem) (world_of self.new machine.new.mem)
-            result (taken_by machine.new.hart - taken_by machine.old.hart) idle work }
+        ensures turn { (idle work : ℕ) (entered : List worlds.Entered) → IsTurn (world_of self.old machine.old.mem) (world_of self.new machine.new.mem)
+            result (taken_by machine.new.hart - taken_by machine.old.hart) idle work entered }
         ensures sound { IsSound self.new machine.new.mem }
         ensures size { length machine.new.mem ≡ length machine.old.mem }
         ensures turns { self.new.turns ≤ self.old.turns + 1 }

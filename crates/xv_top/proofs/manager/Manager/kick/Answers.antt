@@ -1,4 +1,4 @@
-use Rattle.std.proofs.Common.{◌∙◌, None, Some, refl, sym, ap, cond, codes}
+use Rattle.std.proofs.Common.{[], ◌∷◌, ◌∙◌, None, Some, refl, sym, ap, cond, codes}
 use Rattle.std.proofs.lemmas.Bool.{cond-true, cond-false}
 use Rattle.xv_lone.specs.Journal.{Kick}
 use Rattle.xv_top.specs.Texts.{kicked_text}
@@ -28,7 +28,7 @@ returns-clause-answer c bytes =
     let w = world_of c.args.self.now bytes in
     let name = c.args.name.now in
     let g = c.in-Some.guest in
-    gives_by _ (record { text = kicked_text name; world = entered name Kick w })
+    gives_by _ (record { text = kicked_text name; world = entered name Kick w; entered = record { name = name; entry = Kick } ∷ [] })
     (kick_is w name (Some (live_guest g bytes)) (c.in-Some.ensures.guest bytes)
     ∙ cond-true (is_reset g.state) _ _ (sym c.if-not-is_reset.ensures))
     (record {

@@ -23,7 +23,7 @@ loop-made-preserved g c =
     let after = world_of c.turn-turned.new.self c.turn-turned.new.machine.mem in
     let turned = c.turn-turned.ensures in
     let on = turns_go_on c.args.turns c.loop-made._made first now after c.loop-made.idle (taken_by c.args.machine.now.hart) (taken_by c.loop-made.machine.hart) (taken_by c.turn-turned.new.machine.hart)
-    c.loop-made-test.true inv.going c.turn-turned.result (turned.turn c.loop-made.idle inv.going.work) turned.taken (built c.turn-turned.result c.in_default.not-Unbuilt) in
+    c.loop-made-test.true inv.going c.turn-turned.result (turned.turn c.loop-made.idle inv.going.work inv.going.entered) turned.taken (built c.turn-turned.result c.in_default.not-Unbuilt) in
     record {
       going = subst (λ i. IsGoing c.args.turns (c.loop-made._made + 1) first after (c.loop-made.idle + i) (taken_by c.args.machine.now.hart) (taken_by c.turn-turned.new.machine.hart)) (sym c.idle-idle.ensures.count) on;
       sound = turned.sound;
@@ -36,7 +36,7 @@ loop-made-preserved g c =
 pub returns-in-Unbuilt-clause-world : goal.returns-in-Unbuilt-clause-world
 returns-in-Unbuilt-clause-world g c =
     let inv = c.loop-made.invariant in
-    let turn = c.in-Unbuilt.ensures.turn c.loop-made.idle inv.going.work in
+    let turn = c.in-Unbuilt.ensures.turn c.loop-made.idle inv.going.work inv.going.entered in
     ap (λ r. r.world) (turns_stop c.args.turns c.loop-made._made (world_of c.args.self.now c.args.machine.now.mem) (world_of c.loop-made.self c.loop-made.machine.mem) (world_of c.turn-turned.new.self c.turn-turned.new.machine.mem) c.loop-made.idle (taken_by c.args.machine.now.hart) (taken_by c.loop-made.machine.hart) (taken_by c.turn-turned.new.machine.hart)
     c.loop-made-test.true inv.going (Unbuilt c.in-Unbuilt.pc) turn c.in-Unbuilt.ensures.taken c.in-Unbuilt.pc refl)
     ∙ turn.world
@@ -44,7 +44,7 @@ returns-in-Unbuilt-clause-world g c =
 pub returns-in-Unbuilt-clause-idle : goal.returns-in-Unbuilt-clause-idle
 returns-in-Unbuilt-clause-idle g c =
     let inv = c.loop-made.invariant in
-    let turn = c.in-Unbuilt.ensures.turn c.loop-made.idle inv.going.work in
+    let turn = c.in-Unbuilt.ensures.turn c.loop-made.idle inv.going.work inv.going.entered in
     ap (λ r. r.idle) (turns_stop c.args.turns c.loop-made._made (world_of c.args.self.now c.args.machine.now.mem) (world_of c.loop-made.self c.loop-made.machine.mem) (world_of c.turn-turned.new.self c.turn-turned.new.machine.mem) c.loop-made.idle (taken_by c.args.machine.now.hart) (taken_by c.loop-made.machine.hart) (taken_by c.turn-turned.new.machine.hart)
     c.loop-made-test.true inv.going (Unbuilt c.in-Unbuilt.pc) turn c.in-Unbuilt.ensures.taken c.in-Unbuilt.pc refl)
     ∙ omega (arith, turn.idle)
@@ -52,7 +52,7 @@ returns-in-Unbuilt-clause-idle g c =
 pub returns-in-Unbuilt-clause-unbuilt : goal.returns-in-Unbuilt-clause-unbuilt
 returns-in-Unbuilt-clause-unbuilt g c =
     let inv = c.loop-made.invariant in
-    let turn = c.in-Unbuilt.ensures.turn c.loop-made.idle inv.going.work in
+    let turn = c.in-Unbuilt.ensures.turn c.loop-made.idle inv.going.work inv.going.entered in
     ap (λ r. r.unbuilt) (turns_stop c.args.turns c.loop-made._made (world_of c.args.self.now c.args.machine.now.mem) (world_of c.loop-made.self c.loop-made.machine.mem) (world_of c.turn-turned.new.self c.turn-turned.new.machine.mem) c.loop-made.idle (taken_by c.args.machine.now.hart) (taken_by c.loop-made.machine.hart) (taken_by c.turn-turned.new.machine.hart)
     c.loop-made-test.true inv.going (Unbuilt c.in-Unbuilt.pc) turn c.in-Unbuilt.ensures.taken c.in-Unbuilt.pc refl)
     ∙ turn.unbuilt
@@ -60,7 +60,7 @@ returns-in-Unbuilt-clause-unbuilt g c =
 pub returns-in-Unbuilt-clause-work : goal.returns-in-Unbuilt-clause-work
 returns-in-Unbuilt-clause-work g c =
     let inv = c.loop-made.invariant in
-    let turn = c.in-Unbuilt.ensures.turn c.loop-made.idle inv.going.work in
+    let turn = c.in-Unbuilt.ensures.turn c.loop-made.idle inv.going.work inv.going.entered in
     let stop = ap (λ r. r.work) (turns_stop c.args.turns c.loop-made._made (world_of c.args.self.now c.args.machine.now.mem) (world_of c.loop-made.self c.loop-made.machine.mem) (world_of c.turn-turned.new.self c.turn-turned.new.machine.mem) c.loop-made.idle (taken_by c.args.machine.now.hart) (taken_by c.loop-made.machine.hart) (taken_by c.turn-turned.new.machine.hart)
     c.loop-made-test.true inv.going (Unbuilt c.in-Unbuilt.pc) turn c.in-Unbuilt.ensures.taken c.in-Unbuilt.pc refl) in
     omega (arith, stop, turn.work, inv.going.counted, c.in-Unbuilt.ensures.taken)

@@ -1,4 +1,4 @@
-use Rattle.std.proofs.Common.{◌∙◌, length, None, Some, refl, sym, ap, codes}
+use Rattle.std.proofs.Common.{[], ◌∷◌, ◌∙◌, length, None, Some, refl, sym, ap, codes}
 use Rattle.std.proofs.lemmas.Bool.{cond-true, cond-false}
 use Rattle.xv_lone.specs.Plan.{flat}
 use Rattle.xv_lone.specs.Cell.{cell}
@@ -47,7 +47,7 @@ returns-clause-answer c =
     let piece = c.args.bytes.now in
     let g = c.in-Some.guest in
     let there = c.in-Some.ensures.there in
-    gives_by _ (record { text = poked_text name (length piece); world = entered name (Load c.args.gpa piece) w })
+    gives_by _ (record { text = poked_text name (length piece); world = entered name (Load c.args.gpa piece) w; entered = record { name = name; entry = Load c.args.gpa piece } ∷ [] })
     (poke_is w name c.args.gpa piece (Some (live_guest g bytes)) (c.in-Some.ensures.guest bytes)
     ∙ (cond-true (is_reset g.state) _ _ (sym c.if-not-is_reset.ensures)
     ∙ poke_at_some w name c.args.gpa piece (cell (flat g.pages) c.args.gpa (length piece)) (c.if-not-load.ensures.inside refl)))

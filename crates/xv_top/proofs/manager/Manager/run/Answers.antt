@@ -25,7 +25,7 @@ returns-in-None-clause-answer g c =
     let run = run_of c.args.turns w in
     let few : w.turns + c.args.turns ≤ most_turns = omega (arith, c.if-self-turns.false, c.requires.sound.turns) in
     let end = c.make_turns-end.ensures in
-    gives_by _ (record { text = ran_text c.args.turns run.idle run.world.clock; world = run.world })
+    gives_by _ (record { text = ran_text c.args.turns run.idle run.world.clock; world = run.world; entered = run.entered })
     (run_is w c.args.turns ∙ (cond-false _ _ _ (le-ltb most_turns (w.turns + c.args.turns) few) ∙ ap (ran_answer c.args.turns run) (end.unbuilt ∙ c.in-None.is)))
     (record {
       text = c.ran.ensures
@@ -47,7 +47,7 @@ returns-in-Some-clause-answer g c =
     let run = run_of c.args.turns w in
     let few : w.turns + c.args.turns ≤ most_turns = omega (arith, c.if-self-turns.false, c.requires.sound.turns) in
     let end = c.make_turns-end.ensures in
-    gives_by _ (record { text = unbuilt_text c.in-Some.pc; world = run.world })
+    gives_by _ (record { text = unbuilt_text c.in-Some.pc; world = run.world; entered = run.entered })
     (run_is w c.args.turns ∙ (cond-false _ _ _ (le-ltb most_turns (w.turns + c.args.turns) few) ∙ ap (ran_answer c.args.turns run) (end.unbuilt ∙ c.in-Some.is)))
     (record { text = c.unbuilt.ensures; world = sym end.world })
 
