@@ -1,5 +1,5 @@
 -- The instruction table as data, in the words of the standard, and the row of a word.
--- Unprivileged ISA 20191213, chapter 24; Privileged Architecture 20211203, chapter 10 (SRET, WFI, SFENCE.VMA).
+-- Unprivileged ISA 20191213, chapter 24; Privileged Architecture 20211203, sections 3.3.2, 3.3.3 and 4.2.1.
 use Rattle.std.specs.Prelude.{ℕ, zero, suc, ◌+◌, ◌-◌, ◌*◌, ◌^◌, ◌==◌, ◌≡◌, ◌<◌, if◌then◌else◌, List, [], ◌∷◌, Option, None, Some}
 use Rattle.std.specs.Int.Bits.{bit_and}
 use Rattle.xv_isa.specs.declared.rows.Row.{Row}

@@ -1,6 +1,6 @@
 //! The instruction table: one list of rows, read as the table here and as the decoder's arms below.
 //! Rows are those of RV64I, M, A, Zicsr and Zifencei (Unprivileged ISA 20191213, chapter 24) and of
-//! the supervisor (Privileged Architecture 20211203, section 10, SRET, WFI and SFENCE.VMA).
+//! the supervisor (Privileged Architecture 20211203, sections 3.3.2, 3.3.3 and 4.2.1).
 
 ghost use Rattle.std.specs.Prelude.{◌≡◌, ℕ, ◌<◌, ◌^◌, Some, slice_get};
 ghost use Rattle.xv_isa.specs.Rows.{rows, Matches, operation_at};
@@ -110,7 +110,7 @@ pub enum Op {
 }
 
 /// How a row's operands lie in the word (Unprivileged ISA 20191213, sections 2.2 and 2.3, and the
-/// drawings of chapters 8 to 10). The fields of `Insn` that a form doesn't fill are 0.
+/// drawings of chapters 8 and 9). The fields of `Insn` that a form doesn't fill are 0.
 #[derive(Clone, Copy, PartialEq, Eq, Debug)]
 pub enum Form {
     /// rd, rs1, rs2

@@ -18,11 +18,11 @@ pub record Machine : Type 0 where
 -- a machine at its create: zeros, reset values, and the clock as its birth
 abbrev pub new_machine : Plan → ℕ → Machine
 new_machine plan clock = record {
-    memory = map (λ r. replicate r.size 0) plan.regions;
-    vcpus = map reset_vcpu plan.starts;
-    state = Reset;
-    birth = clock;
-  }
+  memory = map (λ r. replicate r.size 0) plan.regions;
+  vcpus = map reset_vcpu plan.starts;
+  state = Reset;
+  birth = clock;
+}
 
 -- the bus of a lone machine: a place is a cell of its plan
 abbrev pub lone_bus : Plan → Bus Memory Cell

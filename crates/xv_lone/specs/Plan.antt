@@ -19,9 +19,9 @@ flat_base = 0x8000_0000
 -- a flat guest: one region of so many pages of 4,096 bytes, and one VCPU
 abbrev pub flat : ℕ → Plan
 flat pages = record {
-    regions = record { base = flat_base; size = 4096 * pages } ∷ [];
-    starts = flat_base ∷ [];
-  }
+  regions = record { base = flat_base; size = 4096 * pages } ∷ [];
+  starts = flat_base ∷ [];
+}
 
 -- whether the region has an address in block k of size bytes
 abbrev pub touches : ℕ → ℕ → Region → Bool

@@ -26,7 +26,7 @@ next_pc pc = (pc + instruction_length) % 2 ^ 64
 
 abbrev pub perform : Action → Core → Option Core
 perform (Set rd value) c = Some (record { x = with_register c.x rd value; pc = next_pc c.pc })
-perform (Jump rd target) c = Some (record { x = with_register c.x rd (next_pc c.pc); pc = target })
+perform (Jump rd link target) c = Some (record { x = with_register c.x rd link; pc = target })
 perform Unbuilt c = None
 
 -- Fetch the word at the pc, and do what it asks for. None where the step isn't built: the word has no

@@ -1,5 +1,5 @@
 -- One VCPU by itself.
-use Rattle.std.specs.Prelude.{ℕ, ◌-◌, ◌^◌, ◌==◌, false, if◌then◌else◌, List, slice_index, slice_set, replicate}
+use Rattle.std.specs.Prelude.{ℕ, ◌-◌, ◌^◌, ◌==◌, false, if◌then◌else◌, List, slice_set, replicate}
 use Rattle.xv_csr.specs.Reset.{reset_csrs}
 use Rattle.xv_lone.specs.declared.vcpu.VcpuView.{VcpuView}
 use Rattle.xv_lone.specs.declared.vcpu.HartState.TheVariants.{Started, Stopped}
@@ -8,16 +8,17 @@ use Rattle.xv_lone.specs.declared.vcpu.HartState.TheVariants.{Started, Stopped}
 -- and the hart stopped.
 abbrev pub reset_vcpu : ℕ → VcpuView
 reset_vcpu start = record {
-    x = replicate 32 0; pc = start; user = false; csrs = reset_csrs; timer = 2 ^ 64 - 1; hart = Stopped;
-  }
+  x = replicate 32 0;
+  pc = start;
+  user = false;
+  csrs = reset_csrs;
+  timer = 2 ^ 64 - 1;
+  hart = Stopped;
+}
 
 -- a guest begins to run: the VCPU is started, with a0 and a1 0
 abbrev pub kicked_vcpu : VcpuView → VcpuView
 kicked_vcpu v = record v { x = slice_set (slice_set v.x 10 0) 11 0; hart = Started }
-
--- what an instruction reads of register number r, of which x0 holds 0 (Unprivileged ISA, 2.1)
-abbrev pub register : List ℕ → ℕ → ℕ
-register x r = slice_index x r
 
 -- the registers with a value in register rd, but that x0 isn't written
 abbrev pub with_register : List ℕ → ℕ → ℕ → List ℕ

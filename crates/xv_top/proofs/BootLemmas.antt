@@ -91,35 +91,35 @@ one_word f (w ∷ v ∷ more) word one here = cc
 module _ (mib : ℕ) (left_old left_new taken_old taken_new : Option (List ℕ)) (text : List ℕ) (told : IsTextOf left_old text) where
   pub run_is : (machine : Machine) → left_new ≡ left_after left_old most_read → IsServed mib text taken_old taken_new machine → IsRun mib left_old left_new taken_old taken_new machine
   run_is machine left served = record {
-      script = script_of left_old text;
-      told = script_told left_old text;
-      left = left ∙ nothing_left left_old text served.cs told served.grammar;
-      served = record {
-        cs = served.cs;
-        grammar = sym (commands_same left_old text told) ∙ served.grammar;
-        taken = served.taken ∙ ap (taken_with taken_old) (transcript_same mib left_old text told);
-        size = served.size;
-        memory = served.memory;
-        stepped = served.stepped;
-      };
-    }
+    script = script_of left_old text;
+    told = script_told left_old text;
+    left = left ∙ nothing_left left_old text served.cs told served.grammar;
+    served = record {
+      cs = served.cs;
+      grammar = sym (commands_same left_old text told) ∙ served.grammar;
+      taken = served.taken ∙ ap (taken_with taken_old) (transcript_same mib left_old text told);
+      size = served.size;
+      memory = served.memory;
+      stepped = served.stepped;
+    };
+  }
 
   pub refused_is : left_new ≡ left_after left_old most_read → commands text ≡ None → taken_new ≡ taken_with taken_old script_text → IsRefused left_old left_new taken_old taken_new
   refused_is left none taken = record {
-      script = script_of left_old text;
-      told = script_told left_old text;
-      grammar = sym (commands_same left_old text told) ∙ none;
-      left = left;
-      taken = taken;
-    }
+    script = script_of left_old text;
+    told = script_told left_old text;
+    grammar = sym (commands_same left_old text told) ∙ none;
+    left = left;
+    taken = taken;
+  }
 
   pub cut_is : (faults_old faults_new : ℕ) → TookFront taken_old taken_new (transcript mib text) → Rose faults_old faults_new → IsCutShort mib left_old taken_old taken_new faults_old faults_new
   cut_is faults_old faults_new front rose = record {
-      script = script_of left_old text;
-      told = script_told left_old text;
-      taken = subst (TookFront taken_old taken_new) (transcript_same mib left_old text told) front;
-      cause = rose;
-    }
+    script = script_of left_old text;
+    told = script_told left_old text;
+    taken = subst (TookFront taken_old taken_new) (transcript_same mib left_old text told) front;
+    cause = rose;
+  }
 
 -- what the commands of a script do, by what the run of them ensures
 module _ (mib : ℕ) (text : List ℕ) (cs all : List Command) (w : World) (grammar : commands text ≡ Some cs) (same : all ≡ cs) (start : w ≡ first_world (pool_frames mib)) where
@@ -128,10 +128,10 @@ module _ (mib : ℕ) (text : List ℕ) (cs all : List Command) (w : World) (gram
 
   pub served_is : (taken_old taken_new : Option (List ℕ)) (machine : Machine) (m : Manager) → taken_new ≡ taken_with taken_old (answers w all) → length machine.mem ≡ 4096 * (256 * mib) → world_of m machine.mem ≡ world_after w all → work_after w all ≤ taken_by machine.hart → IsServed mib text taken_old taken_new machine
   served_is taken_old taken_new machine m taken size world work = record {
-      cs = cs;
-      grammar = grammar;
-      taken = taken ∙ ap (taken_with taken_old) answers_are;
-      size = size;
-      memory = subst (λ x. HoldsWorld machine.mem x.guests) (world ∙ (ap (world_after w) same ∙ ap (λ x. world_after x cs) start)) (holds_world m machine.mem);
-      stepped = omega (arith, work, ap (work_after w) same, ap (λ x. work_after x cs) start);
-    }
+    cs = cs;
+    grammar = grammar;
+    taken = taken ∙ ap (taken_with taken_old) answers_are;
+    size = size;
+    memory = subst (λ x. HoldsWorld machine.mem x.guests) (world ∙ (ap (world_after w) same ∙ ap (λ x. world_after x cs) start)) (holds_world m machine.mem);
+    stepped = omega (arith, work, ap (work_after w) same, ap (λ x. work_after x cs) start);
+  }

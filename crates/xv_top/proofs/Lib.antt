@@ -10,3 +10,4 @@ mod TurnsLemmas
 mod ReadLemmas
 mod FoldLemmas
 mod BootLemmas
+mod RowsLemmas

@@ -47,5 +47,5 @@ pub record IsWindowIn (bytes : ℕ) (w : Window) : Type 0 where
 -- the action names a register, and jumps to a multiple of 4
 abbrev pub IsAligned : Action → Type 0
 IsAligned (Set rd value) = rd < 32
-IsAligned (Jump rd target) = (rd < 32) × (target % 4 ≡ 0)
+IsAligned (Jump rd link target) = (rd < 32) × (target % 4 ≡ 0)
 IsAligned Unbuilt = Unit {0}

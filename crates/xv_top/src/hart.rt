@@ -158,14 +158,13 @@ impl Regs {
         ensures window { self.new.window ≡ self.old.window }
         ensures aligned { self.new.pc % 4 ≡ 0 }
     {
-        let next = self.pc.wrapping_add(4);
         match action {
             Action::Set { rd, value } => {
                 self.set_register(rd, value);
-                self.pc = next;
+                self.pc = self.pc.wrapping_add(4);
             }
-            Action::Jump { rd, target } => {
-                self.set_register(rd, next);
+            Action::Jump { rd, link, target } => {
+                self.set_register(rd, link);
                 self.pc = target;
             }
             Action::Unbuilt => return Exit::Unbuilt,

@@ -1,95 +1,61 @@
 //! What an instruction word asks for: the rows that are built.
-ghost use Rattle.std.specs.Prelude.{◌≡◌, ◌+◌, ◌^◌, ◌<◌, ◌≤◌};
+ghost use Rattle.std.specs.Prelude.{◌≡◌, ◌<◌, Some};
+ghost use Rattle.xv_isa.specs.Effects as effects;
+ghost use Rattle.xv_isa.specs.Encoding.{InRange};
 ghost use Rattle.xv_lone.specs.Rows as row;
 ghost use Rattle.xv_top.specs.Hart.{IsAligned};
 
+use xv_alu::result;
+use xv_isa::{Insn, Op, decode, op_of};
 use xv_lone::Action;
-
-fn field(word: u32, low: u32, width: u32) -> u32
-    requires { low + width ≤ 32 }
-    ensures value { result ≡ row.field low width word }
-    ensures small { result < 2 ^ width }
-{
-    ((u64::from(word) >> low) % (1 << width)) as u32
-}
-
-fn is_addi(word: u32) -> bool
-    ensures { result ≡ row.is_addi word }
-{
-    field(word, 0, 7) == 0x13 && field(word, 12, 3) == 0
-}
-
-fn is_add(word: u32) -> bool
-    ensures { result ≡ row.is_add word }
-{
-    field(word, 0, 7) == 0x33 && field(word, 12, 3) == 0 && field(word, 25, 7) == 0
-}
-
-fn is_jal(word: u32) -> bool
-    ensures { result ≡ row.is_jal word }
-{
-    field(word, 0, 7) == 0x6f
-}
-
-fn i_immediate(word: u32) -> u64
-    ensures { result ≡ row.i_immediate word }
-{
-    let bits = u64::from(field(word, 20, 12));
-    if bits < 1 << 11 {
-        bits
-    } else {
-        bits + (u64::MAX - 0xfff)
-    }
-}
-
-fn j_immediate(word: u32) -> u64
-    ensures { result ≡ row.j_immediate word }
-{
-    let sign = u64::from(field(word, 31, 1));
-    let high = u64::from(field(word, 12, 8));
-    let middle = u64::from(field(word, 20, 1));
-    let low = u64::from(field(word, 21, 10));
-    let bits = (sign << 20) + (high << 12) + (middle << 11) + (low << 1);
-    if bits < 1 << 20 {
-        bits
-    } else {
-        bits + (u64::MAX - 0x1f_ffff)
-    }
-}
 
 /// What the word at `pc` asks for, where the integer registers are `x`.
 pub fn action_of(word: u32, x: &[u64; 32], pc: u64) -> Action
     ensures action { result ≡ row.action_of word x.now pc }
     ensures aligned { IsAligned result }
 {
-    let rd = field(word, 7, 5) as u8;
-    let a = x[field(word, 15, 5) as usize];
-    let b = x[field(word, 20, 5) as usize];
-    if is_addi(word) {
-        return Action::Set {
-            rd,
-            value: a.wrapping_add(i_immediate(word)),
-        };
+    match decode(word) {
+        Some(insn) => action_for(&insn, x, pc),
+        None => Action::Unbuilt,
     }
-    if is_add(word) {
-        return Action::Set {
-            rd,
-            value: a.wrapping_add(b),
-        };
-    }
-    if is_jal(word) {
-        return jump(rd, pc.wrapping_add(j_immediate(word)));
-    }
-    Action::Unbuilt
 }
 
-fn jump(rd: u8, target: u64) -> Action
+#[tactic(auto, using(crate::proofs::RowsLemmas::registers_fit))]
+fn action_for(insn: &Insn, x: &[u64; 32], pc: u64) -> Action
+    requires { InRange insn.now }
+    ensures action { result ≡ row.action_for (Some insn.now) x.now pc }
+    ensures aligned { IsAligned result }
+{
+    let immediate = insn.imm.cast_unsigned();
+    match op_of(insn) {
+        Op::Addi => Action::Set {
+            rd: insn.rd,
+            value: result(Op::Addi, register(x, insn.rs1), immediate),
+        },
+        Op::Add => Action::Set {
+            rd: insn.rd,
+            value: result(Op::Add, register(x, insn.rs1), register(x, insn.rs2)),
+        },
+        Op::Jal => jump(insn.rd, pc.wrapping_add(4), pc.wrapping_add(immediate)),
+        _ => Action::Unbuilt,
+    }
+}
+
+/// The value of a register, of which x0 reads 0.
+fn register(x: &[u64; 32], number: u8) -> u64
+    requires { number < 32 }
+    ensures { result ≡ effects.register x.now number }
+{
+    if number == 0 { 0 } else { x[number as usize] }
+}
+
+fn jump(rd: u8, link: u64, target: u64) -> Action
     requires { rd < 32 }
-    ensures action { result ≡ row.jump rd target }
+    ensures action { result ≡ row.jump rd link target }
     ensures aligned { IsAligned result }
 {
     if target % 4 == 0 {
-        Action::Jump { rd, target }
+        Action::Jump { rd, link, target }
     } else {
         Action::Unbuilt
     }

@@ -8,8 +8,8 @@ use Rattle.xv_top.proofs.program.run_script.Goals as goal
 pub returns-in-Err-Unbuilt-clause-write_fault : goal.returns-in-Err-Unbuilt-clause-write_fault
 returns-in-Err-Unbuilt-clause-write_fault g c h =
     subst (TookFront (g.K.Sink.taken c.args.sink.now) (g.K.Sink.taken c.refuse.new.sink))
-      (sym (transcript_none c.args.mib c.args.text.now (c.in-Err-Unbuilt.ensures.unbuilt (ap Err c.in-Err-Unbuilt.field-0-is))))
-      (c.refuse.ensures.write_fault h)
+    (sym (transcript_none c.args.mib c.args.text.now (c.in-Err-Unbuilt.ensures.unbuilt (ap Err c.in-Err-Unbuilt.field-0-is))))
+    (c.refuse.ensures.write_fault h)
 
 pub returns-in-Ok-run_counted-clause-served : goal.returns-in-Ok-run_counted-clause-served
 returns-in-Ok-run_counted-clause-served g c =
@@ -17,12 +17,12 @@ returns-in-Ok-run_counted-clause-served g c =
     let size = ap length c.requires.memory ∙ length-replicate (4096 * (256 * c.args.mib)) 0 in
     let run = c.in-Ok-run_counted.ensures in
     served_is c.args.mib c.args.text.now c.in-Ok.all.items c.deref.result.now (world_of c.new-manager.result mem) c.in-Ok.ensures.ok c.deref.ensures.value (c.new-manager.ensures.world c.args.mib mem size)
-      (g.K.Sink.taken c.args.sink.now) (g.K.Sink.taken c.run_counted.new.sink) c.run_counted.new.machine c.run_counted.new.manager run.taken (run.size ∙ size) run.world run.work
+    (g.K.Sink.taken c.args.sink.now) (g.K.Sink.taken c.run_counted.new.sink) c.run_counted.new.machine c.run_counted.new.manager run.taken (run.size ∙ size) run.world run.work
 
 pub returns-clause-write_fault : goal.returns-clause-write_fault
 returns-clause-write_fault g c _ =
     let mem = c.args.machine.now.mem in
     let size = ap length c.requires.memory ∙ length-replicate (4096 * (256 * c.args.mib)) 0 in
     subst (TookFront (g.K.Sink.taken c.args.sink.now) (g.K.Sink.taken c.run_counted.new.sink))
-      (answers_are c.args.mib c.args.text.now c.in-Ok.all.items c.deref.result.now (world_of c.new-manager.result mem) c.in-Ok.ensures.ok c.deref.ensures.value (c.new-manager.ensures.world c.args.mib mem size))
-      c.in-Err.ensures.front
+    (answers_are c.args.mib c.args.text.now c.in-Ok.all.items c.deref.result.now (world_of c.new-manager.result mem) c.in-Ok.ensures.ok c.deref.ensures.value (c.new-manager.ensures.world c.args.mib mem size))
+    c.in-Err.ensures.front
