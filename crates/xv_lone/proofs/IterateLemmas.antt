@@ -1,5 +1,5 @@
 -- What a bounded iteration gives, turn by turn.
-use Rattle.std.proofs.Common.{◌≡◌, ◌≢◌, ℕ, zero, suc, ◌+◌, ◌-◌, ◌<◌, Option, Some, None, option_map, refl, sym, ap, ◌∙◌, subst, arith}
+use Rattle.std.proofs.Common.{◌≡◌, ℕ, zero, suc, Option, Some, None, option_map, refl, sym, ap, ◌∙◌}
 use Rattle.xv_lone.specs.Turn.{iterate, or_on}
 
 iterate_suc : {S : Type 0} (f : S → Option S) (n : ℕ) (s : S) → iterate f (suc n) s ≡ or_on (iterate f n) s (f s)

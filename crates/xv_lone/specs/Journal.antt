@@ -1,5 +1,5 @@
 -- What happens to a guest from outside, entry by entry. Nothing else changes its machine.
-use Rattle.std.specs.Prelude.{ℕ, List, [], ◌∷◌, length, map, Option, Some, None, option_map, slice_get, slice_set}
+use Rattle.std.specs.Prelude.{ℕ, List, [], ◌∷◌, length, Option, Some, None}
 use Rattle.xv_lone.specs.declared.vcpu.VcpuView.{VcpuView}
 use Rattle.xv_lone.specs.declared.vcpu.GuestState.TheVariants.{Running}
 use Rattle.xv_lone.specs.Plan.{Plan}

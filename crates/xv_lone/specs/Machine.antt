@@ -1,11 +1,11 @@
 -- The lone machine, its birth, and one lone step.
-use Rattle.std.specs.Prelude.{ℕ, List, map, replicate, slice_get, slice_set, Option, Some, None, option_map, option_and_then}
+use Rattle.std.specs.Prelude.{ℕ, List, map, replicate, slice_get, slice_set, Option, option_map, option_and_then}
 use Rattle.xv_lone.specs.declared.vcpu.VcpuView.{VcpuView}
 use Rattle.xv_lone.specs.declared.vcpu.GuestState.{GuestState}
-use Rattle.xv_lone.specs.declared.vcpu.GuestState.TheVariants.{Reset, Running}
+use Rattle.xv_lone.specs.declared.vcpu.GuestState.TheVariants.{Reset}
 use Rattle.xv_lone.specs.Plan.{Plan}
 use Rattle.xv_lone.specs.Cell.{Cell, Memory, cell, load_cell}
-use Rattle.xv_lone.specs.Vcpu.{reset_vcpu, kicked_vcpu}
+use Rattle.xv_lone.specs.Vcpu.{reset_vcpu}
 use Rattle.xv_lone.specs.Step.{Bus, Core, step}
 
 -- one guest by itself

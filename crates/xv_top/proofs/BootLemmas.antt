@@ -1,11 +1,9 @@
 -- The script that a source has, and the text that is read of it.
-use Rattle.std.proofs.Common.{◌≡◌, ℕ, ◌+◌, ◌-◌, ◌*◌, ◌^◌, ◌<◌, ◌≤◌, Bool, true, false, cond, leb, List, [], ◌∷◌, length, take, drop, map, get_or, replicate, Option, Some, None, ◌≢◌, IfSome, subst, refl, sym, ap, ◌∙◌, arith}
+use Rattle.std.proofs.Common.{◌≡◌, ℕ, ◌*◌, ◌<◌, ◌≤◌, false, cond, leb, List, [], ◌∷◌, length, take, map, get_or, Option, Some, None, subst, refl, sym, ap, ◌∙◌, arith}
 use Rattle.std.proofs.Common.{inl, inr, ◌⊎◌}
 use Rattle.std.proofs.lemmas.Bool.Decides.{nat_tests}
-use Rattle.std.specs.List.{All}
 use Rattle.std.proofs.lemmas.Bool.{cases_lt}
 use Rattle.std.proofs.lemmas.List.{take_all, drop_all, length-take}
-use Rattle.std.proofs.lemmas.List.Elements.{All-from_recursion}
 use Rattle.xv_base.specs.Fault.{Rose}
 use Rattle.xv_outside.specs.Outside.{left_after, taken_with, TookFront}
 use Rattle.xv_top.specs.declared.command.Command.{Command}
@@ -13,8 +11,8 @@ use Rattle.xv_top.specs.declared.manager.Manager.{Manager}
 use Rattle.xv_top.specs.declared.machine.Machine.{Machine}
 use Rattle.xv_top.specs.Hart.{taken_by}
 use Rattle.xv_top.specs.World.{World, first_world}
-use Rattle.xv_top.specs.Manager.{world_of, guests_of, IsInRange}
-use Rattle.xv_top.specs.Script.{commands, commands_of, lines, IsBuilt}
+use Rattle.xv_top.specs.Manager.{world_of, guests_of}
+use Rattle.xv_top.specs.Script.{commands, commands_of, lines}
 use Rattle.xv_top.specs.Texts.{script_text}
 use Rattle.xv_top.specs.Transcript.{answers, world_after, work_after, transcript, transcript_of, pool_frames}
 use Rattle.xv_top.proofs.JournalLemmas.{replayed}

@@ -5,7 +5,7 @@ use Rattle.xv_outside.specs.Outside.{taken_with, TookFront}
 use Rattle.xv_outside.proofs.Told.{taken_with_both, taken_with_none, took_front_after, took_front_before}
 use Rattle.xv_top.specs.declared.command.Command.{Command}
 use Rattle.xv_top.specs.World.{World}
-use Rattle.xv_top.specs.Answer.{Answer, answer, work_in}
+use Rattle.xv_top.specs.Answer.{answer, work_in}
 use Rattle.xv_top.specs.Transcript.{answers, world_after, work_after}
 
 -- the first made commands were run, from the world first to now: what they answered was taken

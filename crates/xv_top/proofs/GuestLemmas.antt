@@ -1,14 +1,14 @@
 -- A guest's memory through its window is the memory of its lone machine, so that both step alike.
 use Rattle.std.proofs.Common.{◌≡◌, ℕ, ◌+◌, ◌-◌, ◌*◌, ◌≤◌, Bool, true, false, ◌&&◌, leb, cond, List, [], ◌∷◌, length, Option, Some, None, option_map, option_and_then, is_some, refl, sym, ap, ◌∙◌, arith}
 use Rattle.std.proofs.lemmas.Bool.{and_parts, leb-true}
-use Rattle.xv_mem.specs.Bytes.{range, put, word_at}
+use Rattle.xv_mem.specs.Bytes.{range, put}
 use Rattle.xv_mem.proofs.Puts.{range-put_inside}
 use Rattle.xv_mem.proofs.Words.{word_at-range}
 use Rattle.xv_lone.specs.Plan.{flat, flat_base}
 use Rattle.xv_lone.specs.Rows.{action_of}
 use Rattle.xv_lone.specs.Step.{Core, step, perform}
 use Rattle.xv_lone.specs.Machine.{Machine, lone_bus, lone_step, with_core}
-use Rattle.xv_lone.specs.Turn.{InTurn, one_more, whole_turn, turn, steps, ending, ending_after, iterate}
+use Rattle.xv_lone.specs.Turn.{InTurn, one_more, whole_turn, turn, steps, ending, ending_after}
 use Rattle.xv_lone.specs.Cell.{Cell, cell}
 use Rattle.xv_lone.specs.Journal.{loaded, stored_at}
 use Rattle.xv_lone.proofs.IterateLemmas.{iterate-map}

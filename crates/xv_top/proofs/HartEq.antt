@@ -1,5 +1,5 @@
 -- When two harts are the same, by the test that compares them field by field.
-use Rattle.std.proofs.Common.{◌≡◌, ℕ, Bool, eqb, ◌&&◌, List, Decides, sym, ap, ◌∙◌}
+use Rattle.std.proofs.Common.{◌≡◌, ℕ, Bool, eqb, ◌&&◌, List, Decides, ap, ◌∙◌}
 use Rattle.std.proofs.lemmas.Bool.Decides.{Decides-and, Decides-eqb, Decides-like}
 use Rattle.std.proofs.lemmas.Slice.Eq.{bytes_eq-Decides}
 use Rattle.std.specs.Str.{bytes_eq}

@@ -1,5 +1,5 @@
 -- Each live guest's machine is the replay of its own journal.
-use Rattle.std.proofs.Common.{◌≡◌, ℕ, zero, suc, ◌+◌, Bool, true, false, cond, ltb, List, [], ◌∷◌, ◌++◌, map, length, Option, Some, None, is_some, slice_get, option_map, find, subst, refl, sym, ap, ◌∙◌, codes, arith}
+use Rattle.std.proofs.Common.{◌≡◌, ℕ, zero, suc, Bool, true, false, cond, ltb, List, [], ◌∷◌, ◌++◌, map, length, Option, Some, None, is_some, slice_get, subst, refl, sym, ap, ◌∙◌, codes, arith}
 use Rattle.std.specs.Str.{bytes_eq}
 use Rattle.std.proofs.lemmas.Bool.{cond_both, cond-true, cond-false, ltb-false}
 use Rattle.std.proofs.lemmas.List.{append-nil, append_assoc}
@@ -14,8 +14,8 @@ use Rattle.xv_lone.specs.Turn.{ending, iterate, or_on}
 use Rattle.xv_lone.specs.Journal.{Entry, Born, Load, Kick, Turn, changed, after_entry, replay, replay_from}
 use Rattle.xv_top.specs.declared.command.Command.{Command}
 use Rattle.xv_top.specs.declared.command.Command.TheVariants as command
-use Rattle.xv_top.specs.World.{LiveGuest, World, Entered, RunSoFar, first_world, entered, entered_guest, one_turn, after_turn, next_turn, pick, run_of, guest_named, free}
-use Rattle.xv_top.specs.Answer.{Answer, answer, refused, created, flat_answer, poke_guest, poke_at, kick_guest, regs_guest, regs_of_vcpu, run_answer, ran_answer}
+use Rattle.xv_top.specs.World.{LiveGuest, World, Entered, RunSoFar, first_world, entered_guest, one_turn, after_turn, next_turn, pick, run_of, guest_named, free}
+use Rattle.xv_top.specs.Answer.{Answer, answer, refused, flat_answer, poke_guest, poke_at, kick_guest, regs_guest, regs_of_vcpu, run_answer, ran_answer}
 use Rattle.xv_top.specs.Texts.{frames_text, regs_text}
 use Rattle.xv_top.specs.Transcript.{world_after}
 use Rattle.xv_top.specs.Journals.{extended, journal_from, journal_of, entered_by, AreReplayed}
@@ -58,13 +58,13 @@ one_replayed name e es g true same fine now =
     let next : LiveGuest = record g { machine = changed g.plan e g.machine } in
     let there : entered_guest name e g ≡ next = cond-true (bytes_eq g.name name) next g same in
     subst (λ (h : LiveGuest). replay h.plan (journal_of h.name (es ++ an_entry name e ∷ [])) ≡ Some h.machine) (sym there)
-      (ap (replay g.plan) (journal-push g.name es (an_entry name e) ∙ (cond-true (bytes_eq g.name name) _ _ same ∙ extended-end (journal_of g.name es) e fine))
-      ∙ replay-push g.plan (journal_of g.name es) e g.machine now)
+    (ap (replay g.plan) (journal-push g.name es (an_entry name e) ∙ (cond-true (bytes_eq g.name name) _ _ same ∙ extended-end (journal_of g.name es) e fine))
+    ∙ replay-push g.plan (journal_of g.name es) e g.machine now)
 one_replayed name e es g false other fine now =
     let next : LiveGuest = record g { machine = changed g.plan e g.machine } in
     let there : entered_guest name e g ≡ g = cond-false (bytes_eq g.name name) next g other in
     subst (λ (h : LiveGuest). replay h.plan (journal_of h.name (es ++ an_entry name e ∷ [])) ≡ Some h.machine) (sym there)
-      (ap (replay g.plan) (journal-push g.name es (an_entry name e) ∙ cond-false (bytes_eq g.name name) _ _ other) ∙ now)
+    (ap (replay g.plan) (journal-push g.name es (an_entry name e) ∙ cond-false (bytes_eq g.name name) _ _ other) ∙ now)
 
 all_replayed : (name : List ℕ) (e : Entry) (es : List Entered) (gs : List LiveGuest) → NoBirth e → AreReplayed es gs → AreReplayed (es ++ an_entry name e ∷ []) (map (entered_guest name e) gs)
 all_replayed name e es [] fine h = tt
@@ -113,7 +113,7 @@ run_replayed : (es : List Entered) (turns : ℕ) (w : World) → AreReplayed es 
 unfolding run_of
 run_replayed es turns w h =
     iterate_keeps (RunReplayed es) next_turn (next_replayed es) turns (record { world = w; idle = 0; work = 0; entered = []; unbuilt = None })
-      (subst (λ all. AreReplayed all w.guests) (sym (append-nil es)) h)
+    (subst (λ all. AreReplayed all w.guests) (sym (append-nil es)) h)
 
 -- an answer keeps it
 abbrev AnswerReplayed : List Entered → Answer → Type 0
@@ -128,12 +128,12 @@ module _ (es : List Entered) (w : World) (h : AreReplayed es w.guests) where
   flat_replayed : (name : List ℕ) (pages : ℕ) → AnswerReplayed es (flat_answer w name pages)
   flat_replayed name pages =
       cond_both (is_some (guest_named name w)) _ _ (AnswerReplayed es)
-        (λ _. same_replayed (refused w (codes "used")) refl refl)
-        (λ _. cond_both (ltb 0 (length w.guests)) _ _ (AnswerReplayed es)
-          (λ _. same_replayed (refused w (codes "unbuilt")) refl refl)
-          (λ alone. cond_both (ltb (free w) (need (flat pages))) _ _ (AnswerReplayed es)
-            (λ _. same_replayed (record { text = frames_text (need (flat pages)) (free w); world = w; entered = [] }) refl refl)
-            (λ _. made w.guests alone)))
+      (λ _. same_replayed (refused w (codes "used")) refl refl)
+      (λ _. cond_both (ltb 0 (length w.guests)) _ _ (AnswerReplayed es)
+      (λ _. same_replayed (refused w (codes "unbuilt")) refl refl)
+      (λ alone. cond_both (ltb (free w) (need (flat pages))) _ _ (AnswerReplayed es)
+      (λ _. same_replayed (record { text = frames_text (need (flat pages)) (free w); world = w; entered = [] }) refl refl)
+      (λ _. made w.guests alone)))
     where
       made : (gs : List LiveGuest) → ltb 0 (length gs) ≡ false → AreReplayed (es ++ an_entry name (Born w.clock) ∷ []) (gs ++ record { name = name; plan = flat pages; machine = new_machine (flat pages) w.clock } ∷ [])
       made [] alone = born_replayed name (flat pages) w.clock es
@@ -182,7 +182,7 @@ unfolding entered_by world_after
 replayed_from es w [] h = subst (λ all. AreReplayed all w.guests) (sym (append-nil es)) h
 replayed_from es w (c ∷ cs) h =
     subst (λ all. AreReplayed all (world_after (answer w c).world cs).guests) (append_assoc es (answer w c).entered (entered_by (answer w c).world cs))
-      (replayed_from (es ++ (answer w c).entered) (answer w c).world cs (answer_replayed es w h c))
+    (replayed_from (es ++ (answer w c).entered) (answer w c).world cs (answer_replayed es w h c))
 
 -- whatever commands come, each live guest's machine is the replay of its own journal
 pub replayed : (pool : ℕ) (cs : List Command) → AreReplayed (entered_by (first_world pool) cs) (world_after (first_world pool) cs).guests

@@ -1,19 +1,19 @@
 -- How the manager's guest, clock and counts are the world, command by command.
-use Rattle.std.proofs.Common.{◌≡◌, ℕ, zero, suc, slice_get, ◌+◌, ◌-◌, ◌*◌, ◌<◌, ◌≤◌, Bool, true, false, cond, ltb, List, [], ◌∷◌, length, replicate, Option, Some, None, is_some, option_map, map, find, refl, sym, ap, ◌∙◌, arith, codes}
+use Rattle.std.proofs.Common.{◌≡◌, ℕ, zero, suc, slice_get, ◌+◌, ◌-◌, ◌*◌, ◌≤◌, Bool, true, false, cond, ltb, List, [], ◌∷◌, length, replicate, Option, Some, None, is_some, option_map, map, find, refl, sym, ap, ◌∙◌, arith}
 use Rattle.std.specs.Str.{bytes_eq}
-use Rattle.std.proofs.lemmas.Bool.{cond-true, cond-false}
+use Rattle.std.proofs.lemmas.Bool.{cond-true}
 use Rattle.xv_mem.specs.Bytes.{range}
 use Rattle.xv_mem.proofs.Puts.{range-replicate}
 use Rattle.xv_lone.specs.declared.vcpu.VcpuView.{VcpuView}
 use Rattle.xv_lone.specs.Plan.{flat, need}
-use Rattle.xv_lone.specs.Cell.{Cell, cell}
+use Rattle.xv_lone.specs.Cell.{Cell}
 use Rattle.xv_lone.specs.Journal.{Entry, Load, changed}
 use Rattle.xv_top.specs.declared.guest.Guest.{Guest}
 use Rattle.xv_top.specs.declared.manager.Manager.{Manager}
 use Rattle.xv_top.specs.declared.command.Command.TheVariants.{Flat, Poke, Kick, Regs, Run}
 use Rattle.xv_top.specs.Texts.{frames_text, poked_text}
 use Rattle.xv_top.specs.World.{LiveGuest, World, guest_named, entered, entered_guest, pick, is_ready, run_of}
-use Rattle.xv_top.specs.Answer.{Answer, answer, refused, created, flat_answer, poke_guest, poke_at, kick_guest, regs_guest, run_answer, most_turns, work_in}
+use Rattle.xv_top.specs.Answer.{Answer, answer, created, flat_answer, poke_guest, poke_at, kick_guest, regs_guest, run_answer, most_turns, work_in}
 use Rattle.xv_top.specs.Guest.{live_guest, lone_of, host_base, new_guest}
 use Rattle.xv_top.specs.Manager.{world_of, guests_of, Gives}
 

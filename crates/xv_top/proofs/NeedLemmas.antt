@@ -1,9 +1,9 @@
 -- The blocks that one region touches are those from its first byte's to its last byte's.
-use Rattle.std.proofs.Common.{◌≡◌, ℕ, zero, suc, ◌+◌, ◌-◌, ◌*◌, ◌/◌, ◌^◌, ◌<◌, ◌≤◌, min, Bool, true, false, ◌&&◌, ◌||◌, leb, ltb, cond, List, [], ◌∷◌, Decides, refl, sym, ap, ◌∙◌, arith, lit<}
+use Rattle.std.proofs.Common.{◌≡◌, ℕ, zero, suc, ◌+◌, ◌-◌, ◌*◌, ◌/◌, ◌^◌, ◌<◌, ◌≤◌, min, Bool, true, false, ◌&&◌, ◌||◌, leb, [], ◌∷◌, Decides, refl, ap, ◌∙◌, arith, lit<}
 use Rattle.std.proofs.Math.Nat.{div-lt_iff_lt-mul, le-div_iff_mul-le, mul-div_cancel_left}
 use Rattle.std.proofs.lemmas.Bool.{leb-true, le-leb}
 use Rattle.std.proofs.lemmas.Bool.Decides.{same_from_decides, Decides-and, Decides-ltb, Decides-like, nat_tests}
-use Rattle.xv_lone.specs.Plan.{Region, flat, flat_base, touches, count_below, blocks_touched, need}
+use Rattle.xv_lone.specs.Plan.{flat, flat_base, touches, count_below, blocks_touched, need}
 
 -- the numbers from low to high, among those below n
 count_interval : (test : ℕ → Bool) (low high : ℕ) → ((k : ℕ) → test k ≡ (leb low k && leb k high)) → (n : ℕ) → count_below test n ≡ min n (high + 1) - low

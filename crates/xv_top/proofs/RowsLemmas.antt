@@ -1,14 +1,11 @@
 -- The rows that are built, and the fields of their instructions.
-use Rattle.std.proofs.Common.{◌≡◌, ℕ, ◌<◌, List, refl, arith}
+use Rattle.std.proofs.Common.{◌<◌, arith}
 use Rattle.xv_isa.specs.declared.instruction.Insn.{Insn}
 use Rattle.xv_isa.specs.declared.rows.Form.{Form}
 use Rattle.xv_isa.specs.declared.rows.Form.TheVariants.{R, I, S, B, U, J, Shift, Csr, Fence, Whole, Sfence, Lr, Amo}
 use Rattle.xv_isa.specs.declared.rows.Op.{Op}
-use Rattle.xv_isa.specs.declared.rows.Op.TheVariants.{Addi, Add, Jal}
 use Rattle.xv_isa.specs.Rows.{form_of, operation_at}
 use Rattle.xv_isa.specs.Encoding.{FitsForm, InRange}
-use Rattle.xv_lone.specs.declared.action.Action.TheVariants.{Unbuilt}
-use Rattle.xv_lone.specs.Rows.{built_row}
 
 abbrev RegistersFit : Insn → Type 0
 RegistersFit i = (i.rd < 32) × (i.rs1 < 32) × (i.rs2 < 32)

@@ -1,5 +1,5 @@
 -- A turn of the hart, step by step: what is made so far, continued by the rest, is the whole.
-use Rattle.std.proofs.Common.{◌≡◌, ℕ, suc, ◌+◌, ◌-◌, ◌<◌, ◌≤◌, List, Some, None, option_map, refl, sym, ap, ◌∙◌, arith}
+use Rattle.std.proofs.Common.{◌≡◌, ℕ, ◌+◌, ◌-◌, ◌<◌, ◌≤◌, List, Some, None, option_map, refl, sym, ap, ◌∙◌, arith}
 use Rattle.xv_lone.specs.Step.{Core, step}
 use Rattle.std.proofs.lemmas.Bool.Decides.{nat_tests}
 use Rattle.xv_lone.specs.declared.vcpu.TurnEnd.TheVariants.{Spent, Unbuilt}

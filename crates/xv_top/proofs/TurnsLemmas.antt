@@ -1,5 +1,5 @@
 -- A run of turns, turn by turn: what is made so far, continued by the rest, is the whole.
-use Rattle.std.proofs.Common.{◌≡◌, ℕ, suc, ◌+◌, ◌-◌, ◌<◌, ◌≤◌, List, [], Option, Some, None, refl, sym, ap, ◌∙◌, arith}
+use Rattle.std.proofs.Common.{◌≡◌, ℕ, ◌+◌, ◌-◌, ◌<◌, ◌≤◌, List, [], Some, None, refl, sym, ap, ◌∙◌, arith}
 use Rattle.xv_lone.specs.Turn.{iterate}
 use Rattle.xv_lone.proofs.IterateLemmas.{iterate_over, iterate_more, iterate_none}
 use Rattle.xv_top.specs.declared.manager.Turned.{Turned}

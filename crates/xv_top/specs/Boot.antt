@@ -1,6 +1,5 @@
 -- What stands at each end of the program.
-use Rattle.std.specs.Prelude.{◌≡◌, ℕ, ◌+◌, ◌*◌, ◌<◌, ◌≤◌, ◌⊎◌, Bool, List, [], ◌∷◌, length, take, drop, map, Option, Some, None, option_map, codes}
-use Rattle.std.specs.List.{All}
+use Rattle.std.specs.Prelude.{◌≡◌, ℕ, ◌+◌, ◌*◌, ◌≤◌, ◌⊎◌, List, [], ◌∷◌, length, take, Option, Some, None, option_map, codes}
 use Rattle.xv_base.specs.Fault.{Rose}
 use Rattle.xv_outside.specs.Outside.{taken_with, left_after, TookFront}
 use Rattle.xv_mem.specs.Bytes.{range}
@@ -9,12 +8,12 @@ use Rattle.xv_lone.specs.Cell.{Memory}
 use Rattle.xv_top.specs.declared.command.Command.{Command}
 use Rattle.xv_top.specs.declared.machine.Machine.{Machine}
 use Rattle.xv_top.specs.Hart.{taken_by}
-use Rattle.xv_top.specs.World.{LiveGuest, World, first_world}
+use Rattle.xv_top.specs.World.{LiveGuest, first_world}
 use Rattle.xv_top.specs.Guest.{host_base}
 use Rattle.xv_top.specs.Script.{commands}
 use Rattle.xv_top.specs.Texts.{script_text}
 use Rattle.xv_top.specs.Journals.{entered_by, AreReplayed}
-use Rattle.xv_top.specs.Transcript.{answers, world_after, work_after, pool_frames, transcript}
+use Rattle.xv_top.specs.Transcript.{world_after, work_after, pool_frames, transcript}
 
 -- the words that the program takes: `boot` alone
 abbrev pub AreRight : List (List ℕ) → Type 0

@@ -1,5 +1,5 @@
 -- The journal of each guest: what happened to it since its last create, and nothing of any other guest.
-use Rattle.std.specs.Prelude.{◌≡◌, if◌then◌else◌, List, [], ◌∷◌, ◌++◌, ℕ, Option, Some}
+use Rattle.std.specs.Prelude.{◌≡◌, if◌then◌else◌, List, [], ◌∷◌, ◌++◌, ℕ, Some}
 use Rattle.std.specs.Str.{bytes_eq}
 use Rattle.xv_lone.specs.Journal.{Entry, Born, Load, Kick, Turn, replay}
 use Rattle.xv_top.specs.declared.command.Command.{Command}

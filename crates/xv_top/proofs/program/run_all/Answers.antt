@@ -1,4 +1,4 @@
-use Rattle.std.proofs.Common.{◌∙◌, ◌≡◌, ◌+◌, ◌*◌, ◌^◌, ◌≤◌, length, subst, refl, sym, ap, arith}
+use Rattle.std.proofs.Common.{◌∙◌, subst, refl, sym, arith}
 use Rattle.xv_top.specs.Hart.{taken_by}
 use Rattle.xv_top.specs.Manager.{world_of}
 use Rattle.xv_top.proofs.FoldLemmas.{IsAnswered, answered_start, answered_more, answered_front, answered_taken, answered_world, answered_work}

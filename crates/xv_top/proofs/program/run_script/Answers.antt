@@ -1,4 +1,4 @@
-use Rattle.std.proofs.Common.{◌∙◌, ◌≡◌, ◌*◌, length, replicate, Err, subst, refl, sym, ap}
+use Rattle.std.proofs.Common.{◌∙◌, ◌*◌, length, Err, subst, sym, ap}
 use Rattle.std.proofs.lemmas.List.{length-replicate}
 use Rattle.xv_outside.specs.Outside.{TookFront}
 use Rattle.xv_top.specs.Manager.{world_of}

@@ -1,7 +1,6 @@
-use Rattle.std.proofs.Common.{◌∙◌, ◌≡◌, ℕ, List, ◌+◌, ◌-◌, ◌++◌, ◌≤◌, length, take, drop, subst, sym, ap, arith}
+use Rattle.std.proofs.Common.{◌∙◌, ◌+◌, ◌++◌, length, take, drop, subst, sym, ap, arith}
 use Rattle.std.proofs.lemmas.List.{length-append, length-take-le, length-drop, take-append-le}
 use Rattle.xv_outside.specs.Outside.{EndsWithTheBytes, left_after}
-use Rattle.xv_top.specs.Boot.{most_read}
 use Rattle.xv_top.proofs.ReadLemmas.{IsFront, front_more, front_within, front_all, front_limit, nothing_taken}
 use Rattle.xv_top.proofs.read.read_script.Goals as goal
 

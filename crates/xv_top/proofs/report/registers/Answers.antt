@@ -1,4 +1,4 @@
-use Rattle.std.proofs.Common.{◌≡◌, ◌+◌, ◌*◌, ◌≤◌, ◌++◌, length, refl, sym, ap, ◌∙◌, append_assoc, append-nil, add-one, arith}
+use Rattle.std.proofs.Common.{◌++◌, sym, ap, ◌∙◌, append_assoc, append-nil, add-one, arith}
 use Rattle.xv_top.specs.Texts.{registers_text, register_text}
 use Rattle.xv_top.proofs.report.registers.Goals as goal
 

@@ -1,6 +1,6 @@
 use Rattle.std.proofs.Common.{◌∙◌, sym, ap, length}
 use Rattle.xv_top.specs.Hart.{host_of}
-use Rattle.xv_top.specs.Guest.{lone_of, window_of}
+use Rattle.xv_top.specs.Guest.{lone_of}
 use Rattle.xv_top.proofs.GuestLemmas.{same_load, some_load}
 use Rattle.xv_top.proofs.guest.Guest.load.Goals as goal
 

@@ -1,8 +1,7 @@
 use Rattle.std.proofs.Common.{◌∙◌, sym, ap, arith}
 use Rattle.xv_lone.specs.Turn.{ending_after}
-use Rattle.xv_top.specs.Hart.{regs_of, taken_by, core_of}
+use Rattle.xv_top.specs.Hart.{core_of}
 use Rattle.xv_top.specs.Machine.{whole_run}
-use Rattle.xv_top.specs.Guest.{lone_of, regs_of_guest}
 use Rattle.xv_top.proofs.GuestLemmas.{with_regs, turn_is, steps_are, ending_is}
 use Rattle.xv_top.proofs.guest.Guest.turn.Goals as goal
 

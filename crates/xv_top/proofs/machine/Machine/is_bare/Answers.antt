@@ -1,4 +1,4 @@
-use Rattle.std.proofs.Common.{◌≡◌, ◌∙◌, sym, ap, length, arith}
+use Rattle.std.proofs.Common.{◌∙◌, sym, arith}
 use Rattle.std.proofs.lemmas.List.{nil_from_length}
 use Rattle.xv_top.proofs.HartEq.{same-Decides}
 use Rattle.xv_top.proofs.machine.Machine.is_bare.Goals as goal

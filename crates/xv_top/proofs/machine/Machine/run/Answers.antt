@@ -1,7 +1,6 @@
-use Rattle.std.proofs.Common.{rules, ◌≡◌, ◌+◌, ◌-◌, ◌<◌, ◌≤◌, refl, sym, ap, ◌∙◌, arith}
+use Rattle.std.proofs.Common.{refl, sym, ap, ◌∙◌, arith}
 use Rattle.xv_lone.specs.Turn.{ending_after}
-use Rattle.xv_top.specs.Hart.{regs_of, taken_by, core_of}
-use Rattle.xv_top.specs.Machine.{whole_run}
+use Rattle.xv_top.specs.Hart.{regs_of, core_of}
 use Rattle.xv_top.proofs.RunLemmas.{run_starts, run_stops, run_goes_on, run_ends, ends_early, ends_spent}
 use Rattle.xv_top.proofs.machine.Machine.run.Goals as goal
 

@@ -1,4 +1,4 @@
-use Rattle.std.proofs.Common.{◌≡◌, ◌+◌, ◌-◌, ◌%◌, ◌≤◌, length}
+use Rattle.std.proofs.Common.{◌≡◌, ◌+◌, ◌-◌, ◌%◌}
 use Rattle.xv_lone.specs.Turn.{iterate}
 use Rattle.xv_top.specs.Hart.{regs_of, taken_by, core_of}
 use Rattle.xv_top.specs.Machine.{one_more_step, whole_run}

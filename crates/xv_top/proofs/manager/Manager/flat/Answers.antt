@@ -1,10 +1,10 @@
-use Rattle.std.proofs.Common.{◌∙◌, ◌≡◌, ◌<◌, ◌≤◌, true, false, length, Some, is_some, ltb, subst, refl, sym, ap, codes, arith}
+use Rattle.std.proofs.Common.{◌∙◌, ◌<◌, ◌≤◌, length, Some, is_some, ltb, subst, refl, sym, ap, codes, arith}
 use Rattle.std.proofs.lemmas.Bool.{cond-true, cond-false, lt-ltb, le-ltb}
 use Rattle.xv_lone.specs.Plan.{flat, need}
 use Rattle.xv_top.specs.Texts.{frames_text, created_text}
 use Rattle.xv_top.specs.World.{guest_named}
 use Rattle.xv_top.specs.Answer.{refused, created}
-use Rattle.xv_top.specs.Guest.{live_guest, new_guest}
+use Rattle.xv_top.specs.Guest.{live_guest}
 use Rattle.xv_top.specs.Manager.{world_of, GuestIsSound}
 use Rattle.xv_top.proofs.ManagerLemmas.{gives_by, flat_is, is_some-map, some_guests, none_there, no_guest, no_frames, flat_alone, same_none, born}
 use Rattle.xv_top.proofs.manager.Manager.flat.Goals as goal

@@ -1,9 +1,9 @@
-use Rattle.std.proofs.Common.{[], ◌∷◌, ◌∙◌, None, Some, refl, sym, ap, cond, codes}
+use Rattle.std.proofs.Common.{[], ◌∷◌, ◌∙◌, None, Some, refl, sym, ap, codes}
 use Rattle.std.proofs.lemmas.Bool.{cond-true, cond-false}
 use Rattle.xv_lone.specs.Journal.{Kick}
 use Rattle.xv_top.specs.Texts.{kicked_text}
 use Rattle.xv_top.specs.World.{is_reset, entered}
-use Rattle.xv_top.specs.Answer.{answer, kick_guest, refused}
+use Rattle.xv_top.specs.Answer.{refused}
 use Rattle.xv_top.specs.Guest.{live_guest}
 use Rattle.xv_top.specs.Manager.{world_of}
 use Rattle.xv_top.proofs.ManagerLemmas.{gives_by, kick_is, entered_one}

@@ -1,4 +1,4 @@
-use Rattle.std.proofs.Common.{◌∙◌, ◌+◌, ◌≤◌, subst, refl, sym, ap, arith}
+use Rattle.std.proofs.Common.{◌∙◌, ◌+◌, subst, refl, sym, ap, arith}
 use Rattle.xv_top.specs.declared.manager.Turned.TheVariants.{Unbuilt}
 use Rattle.xv_top.specs.Hart.{taken_by}
 use Rattle.xv_top.specs.Manager.{world_of}

@@ -1,4 +1,4 @@
-use Rattle.std.proofs.Common.{◌∙◌, true, false, sym}
+use Rattle.std.proofs.Common.{true, false, sym}
 use Rattle.xv_top.proofs.ManagerLemmas.{pick_one}
 use Rattle.xv_top.proofs.manager.Manager.ready.Goals as goal
 

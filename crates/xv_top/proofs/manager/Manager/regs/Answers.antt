@@ -1,4 +1,4 @@
-use Rattle.std.proofs.Common.{[], ◌∙◌, None, Some, refl, sym, ap, codes}
+use Rattle.std.proofs.Common.{[], ◌∙◌, None, Some, refl, ap, codes}
 use Rattle.xv_top.specs.Texts.{regs_text}
 use Rattle.xv_top.specs.declared.command.Command.TheVariants.{Regs}
 use Rattle.xv_top.specs.Answer.{answer, refused, regs_of_vcpu}

@@ -1,8 +1,8 @@
-use Rattle.std.proofs.Common.{◌∙◌, ◌≡◌, ◌+◌, ◌<◌, ◌≤◌, true, false, ltb, Some, None, refl, sym, ap, codes, arith}
+use Rattle.std.proofs.Common.{◌∙◌, ◌+◌, ◌<◌, ◌≤◌, refl, sym, ap, codes, arith}
 use Rattle.std.proofs.lemmas.Bool.{cond-true, cond-false, lt-ltb, le-ltb}
 use Rattle.xv_top.specs.Texts.{ran_text, unbuilt_text}
 use Rattle.xv_top.specs.World.{run_of}
-use Rattle.xv_top.specs.Answer.{refused, ran_answer, most_turns, work_in}
+use Rattle.xv_top.specs.Answer.{refused, ran_answer, most_turns}
 use Rattle.xv_top.specs.Manager.{world_of}
 use Rattle.xv_top.proofs.ManagerLemmas.{gives_by, run_is, work_is}
 use Rattle.xv_top.proofs.manager.Manager.run.Goals as goal
