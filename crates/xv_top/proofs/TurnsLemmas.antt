@@ -5,7 +5,7 @@ use Rattle.xv_lone.proofs.IterateLemmas.{iterate_over, iterate_more, iterate_non
 use Rattle.xv_top.specs.declared.manager.Turned.{Turned}
 use Rattle.xv_top.specs.declared.manager.Turned.TheVariants.{Idle, Made, Unbuilt}
 use Rattle.xv_top.specs.World.{World, Entered, RunSoFar, next_turn, one_turn, pick, run_of}
-use Rattle.xv_top.specs.Manager.{going, IsTurn, idle_of, unbuilt_of}
+use Rattle.xv_top.specs.Manager.{going, IsTurn, IsRunEnd, idle_of, unbuilt_of}
 
 -- a run of so many turns from first has come to now, with so many made
 pub record IsGoing (turns made : ℕ) (first now : World) (idle taken_first taken_now : ℕ) : Type 0 where
@@ -56,14 +56,28 @@ module _ (turns made : ℕ) (first now after : World) (idle taken_first taken_no
       }
 
   -- a turn that meets a step which isn't built is the last
-  pub turns_stop : (pc : ℕ) → unbuilt_of turned ≡ Some pc → run_of turns first ≡ next
-  turns_stop pc some =
+  pub turns_stop : (pc : ℕ) → unbuilt_of turned ≡ Some pc → idle_of turned ≡ 0 → IsRunEnd (run_of turns first) after (record { idle = idle; unbuilt = Some pc }) taken_first taken_after
+  turns_stop pc some none =
+      let last : run_of turns first ≡ next =
       sym one_on
-      ∙ iterate_over next_turn (turns - (made + 1)) next (ap (λ u. next_turn (record next { unbuilt = u })) (turn.unbuilt ∙ some))
+      ∙ iterate_over next_turn (turns - (made + 1)) next (ap (λ u. next_turn (record next { unbuilt = u })) (turn.unbuilt ∙ some)) in
+      record {
+        world = ap (λ r. r.world) last ∙ turn.world;
+        idle = omega (arith, ap (λ r. r.idle) last, turn.idle, none);
+        unbuilt = ap (λ r. r.unbuilt) last ∙ (turn.unbuilt ∙ some);
+        work = omega (arith, ap (λ r. r.work) last, turn.work, so_far.counted, later);
+      }
 
 -- no turn is left
-pub turns_end : (turns made : ℕ) (first now : World) (idle taken_first taken_now : ℕ) → turns ≤ made → (so_far : IsGoing turns made first now idle taken_first taken_now) → run_of turns first ≡ going now idle so_far.work so_far.entered
+pub turns_end : (turns made : ℕ) (first now : World) (idle taken_first taken_now : ℕ) → turns ≤ made → IsGoing turns made first now idle taken_first taken_now → IsRunEnd (run_of turns first) now (record { idle = idle; unbuilt = None }) taken_first taken_now
 turns_end turns made first now idle taken_first taken_now all so_far =
+    let last : run_of turns first ≡ going now idle so_far.work so_far.entered =
     sym so_far.whole
     ∙ (ap (λ n. iterate next_turn n (going now idle so_far.work so_far.entered)) (let e : turns - made ≡ 0 = omega arith in e)
-    ∙ iterate_none next_turn (going now idle so_far.work so_far.entered))
+    ∙ iterate_none next_turn (going now idle so_far.work so_far.entered)) in
+    record {
+      world = ap (λ r. r.world) last;
+      idle = ap (λ r. r.idle) last;
+      unbuilt = ap (λ r. r.unbuilt) last;
+      work = omega (arith, ap (λ r. r.work) last, so_far.counted);
+    }

@@ -4,6 +4,7 @@ use Rattle.xv_top.specs.declared.guest.Guest.{Guest}
 use Rattle.xv_top.specs.declared.command.Command.{Command}
 use Rattle.xv_top.specs.declared.command.Command.TheVariants.{Flat, Poke, Kick, Regs, Run}
 use Rattle.xv_top.specs.declared.manager.Manager.{Manager}
+use Rattle.xv_top.specs.declared.manager.RunEnd.{RunEnd}
 use Rattle.xv_top.specs.declared.manager.Turned.{Turned}
 use Rattle.xv_top.specs.declared.manager.Turned.TheVariants.{Idle, Made, Unbuilt}
 use Rattle.xv_top.specs.World.{LiveGuest, World, Entered, RunSoFar, one_turn, pick}
@@ -63,3 +64,11 @@ pub record IsTurn (before after : World) (turned : Turned) (taken idled worked :
   pub idle : (one_turn (going before idled worked before_it) (pick before)).idle ≡ idled + idle_of turned
   pub unbuilt : (one_turn (going before idled worked before_it) (pick before)).unbuilt ≡ unbuilt_of turned
   pub work : (one_turn (going before idled worked before_it) (pick before)).work ≤ worked + taken
+
+-- what the manager says of a whole run: the world, its idle turns, the pc of a step that isn't built, and
+-- that the hart took at least its lone steps
+pub record IsRunEnd (run : RunSoFar) (after : World) (end : RunEnd) (taken_old taken_new : ℕ) : Type 0 where
+  pub world : run.world ≡ after
+  pub idle : run.idle ≡ end.idle
+  pub unbuilt : run.unbuilt ≡ end.unbuilt
+  pub work : taken_old + run.work ≤ taken_new

@@ -2,8 +2,7 @@
 ghost use Rattle.std.specs.Prelude.{◌≡◌, ◌+◌, ◌-◌, ◌*◌, ◌/◌, ◌^◌, ◌<◌, ◌≤◌};
 ghost use Rattle.xv_lone.specs.Plan.{flat, need, blocks_touched};
 
-/// The guest physical address at which a flat guest's memory begins.
-const FLAT_BASE: u64 = 0x8000_0000;
+use crate::guest::FLAT_BASE;
 
 /// Blocks in which a table of the G stage serves: 1 GiB and 2 MiB.
 const GIB: u64 = 1 << 30;

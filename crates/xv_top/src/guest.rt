@@ -9,7 +9,7 @@ use xv_lone::{GuestState, HartState, TurnEnd, VcpuView};
 use xv_mem::{HostMem, Steps};
 
 /// The guest physical address at which a flat guest's memory begins and its VCPU starts.
-const FLAT_BASE: u64 = 0x8000_0000;
+pub const FLAT_BASE: u64 = 0x8000_0000;
 
 /// The host address from which on the guest's bytes lie.
 const HOST_BASE: u64 = 0x4_0000;

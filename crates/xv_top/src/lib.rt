@@ -20,3 +20,6 @@ pub use command::Command;
 pub use hart::{Exit, Hart, Regs, Window};
 pub use machine::Machine;
 pub use program::boot;
+
+#[cfg(test)]
+mod tests;

@@ -57,7 +57,7 @@ impl Manager {
     ghost use Rattle.xv_top.specs.Transcript.{pool_frames};
     ghost use Rattle.xv_top.specs.Answer as answers;
     ghost use Rattle.xv_top.specs.Guest.{live_guest};
-    ghost use Rattle.xv_top.specs.Manager.{world_of, Gives, IsSound, IsInRange, IsTurn};
+    ghost use Rattle.xv_top.specs.Manager.{world_of, Gives, IsSound, IsInRange, IsTurn, IsRunEnd};
 
     /// A manager with no guest yet, over a machine whose memory is zeros.
     pub fn new(machine: &Machine) -> Manager
@@ -238,12 +238,8 @@ impl Manager {
         requires turns { self.old.turns + turns ≤ MOST_TURNS }
         requires few { taken_by machine.old.hart < 2 ^ 61 }
 
-        ensures world { (worlds.run_of turns (world_of self.old machine.old.mem)).world
-            ≡ world_of self.new machine.new.mem }
-        ensures idle { (worlds.run_of turns (world_of self.old machine.old.mem)).idle ≡ result.idle }
-        ensures unbuilt { (worlds.run_of turns (world_of self.old machine.old.mem)).unbuilt ≡ result.unbuilt }
-        ensures work { taken_by machine.old.hart + (worlds.run_of turns (world_of self.old machine.old.mem)).work
-            ≤ taken_by machine.new.hart }
+        ensures end { IsRunEnd (worlds.run_of turns (world_of self.old machine.old.mem)) (world_of self.new machine.new.mem)
+            result (taken_by machine.old.hart) (taken_by machine.new.hart) }
         ensures sound { IsSound self.new machine.new.mem }
         ensures size { length machine.new.mem ≡ length machine.old.mem }
         ensures few { taken_by machine.new.hart ≤ taken_by machine.old.hart + 1000 * turns }

@@ -33,51 +33,13 @@ loop-made-preserved g c =
       idle = omega (arith, c.idle-idle.ensures.one, inv.idle);
     }
 
-pub returns-in-Unbuilt-clause-world : goal.returns-in-Unbuilt-clause-world
-returns-in-Unbuilt-clause-world g c =
+pub returns-in-Unbuilt-clause-end : goal.returns-in-Unbuilt-clause-end
+returns-in-Unbuilt-clause-end g c =
     let inv = c.loop-made.invariant in
     let turn = c.in-Unbuilt.ensures.turn c.loop-made.idle inv.going.work inv.going.entered in
-    ap (λ r. r.world) (turns_stop c.args.turns c.loop-made._made (world_of c.args.self.now c.args.machine.now.mem) (world_of c.loop-made.self c.loop-made.machine.mem) (world_of c.turn-turned.new.self c.turn-turned.new.machine.mem) c.loop-made.idle (taken_by c.args.machine.now.hart) (taken_by c.loop-made.machine.hart) (taken_by c.turn-turned.new.machine.hart)
-    c.loop-made-test.true inv.going (Unbuilt c.in-Unbuilt.pc) turn c.in-Unbuilt.ensures.taken c.in-Unbuilt.pc refl)
-    ∙ turn.world
+    turns_stop c.args.turns c.loop-made._made (world_of c.args.self.now c.args.machine.now.mem) (world_of c.loop-made.self c.loop-made.machine.mem) (world_of c.turn-turned.new.self c.turn-turned.new.machine.mem) c.loop-made.idle (taken_by c.args.machine.now.hart) (taken_by c.loop-made.machine.hart) (taken_by c.turn-turned.new.machine.hart)
+    c.loop-made-test.true inv.going (Unbuilt c.in-Unbuilt.pc) turn c.in-Unbuilt.ensures.taken c.in-Unbuilt.pc refl refl
 
-pub returns-in-Unbuilt-clause-idle : goal.returns-in-Unbuilt-clause-idle
-returns-in-Unbuilt-clause-idle g c =
-    let inv = c.loop-made.invariant in
-    let turn = c.in-Unbuilt.ensures.turn c.loop-made.idle inv.going.work inv.going.entered in
-    ap (λ r. r.idle) (turns_stop c.args.turns c.loop-made._made (world_of c.args.self.now c.args.machine.now.mem) (world_of c.loop-made.self c.loop-made.machine.mem) (world_of c.turn-turned.new.self c.turn-turned.new.machine.mem) c.loop-made.idle (taken_by c.args.machine.now.hart) (taken_by c.loop-made.machine.hart) (taken_by c.turn-turned.new.machine.hart)
-    c.loop-made-test.true inv.going (Unbuilt c.in-Unbuilt.pc) turn c.in-Unbuilt.ensures.taken c.in-Unbuilt.pc refl)
-    ∙ omega (arith, turn.idle)
-
-pub returns-in-Unbuilt-clause-unbuilt : goal.returns-in-Unbuilt-clause-unbuilt
-returns-in-Unbuilt-clause-unbuilt g c =
-    let inv = c.loop-made.invariant in
-    let turn = c.in-Unbuilt.ensures.turn c.loop-made.idle inv.going.work inv.going.entered in
-    ap (λ r. r.unbuilt) (turns_stop c.args.turns c.loop-made._made (world_of c.args.self.now c.args.machine.now.mem) (world_of c.loop-made.self c.loop-made.machine.mem) (world_of c.turn-turned.new.self c.turn-turned.new.machine.mem) c.loop-made.idle (taken_by c.args.machine.now.hart) (taken_by c.loop-made.machine.hart) (taken_by c.turn-turned.new.machine.hart)
-    c.loop-made-test.true inv.going (Unbuilt c.in-Unbuilt.pc) turn c.in-Unbuilt.ensures.taken c.in-Unbuilt.pc refl)
-    ∙ turn.unbuilt
-
-pub returns-in-Unbuilt-clause-work : goal.returns-in-Unbuilt-clause-work
-returns-in-Unbuilt-clause-work g c =
-    let inv = c.loop-made.invariant in
-    let turn = c.in-Unbuilt.ensures.turn c.loop-made.idle inv.going.work inv.going.entered in
-    let stop = ap (λ r. r.work) (turns_stop c.args.turns c.loop-made._made (world_of c.args.self.now c.args.machine.now.mem) (world_of c.loop-made.self c.loop-made.machine.mem) (world_of c.turn-turned.new.self c.turn-turned.new.machine.mem) c.loop-made.idle (taken_by c.args.machine.now.hart) (taken_by c.loop-made.machine.hart) (taken_by c.turn-turned.new.machine.hart)
-    c.loop-made-test.true inv.going (Unbuilt c.in-Unbuilt.pc) turn c.in-Unbuilt.ensures.taken c.in-Unbuilt.pc refl) in
-    omega (arith, stop, turn.work, inv.going.counted, c.in-Unbuilt.ensures.taken)
-
-pub returns-clause-world : goal.returns-clause-world
-returns-clause-world g c =
-    ap (λ r. r.world) (turns_end c.args.turns c.loop-made._made (world_of c.args.self.now c.args.machine.now.mem) (world_of c.loop-made.self c.loop-made.machine.mem) c.loop-made.idle (taken_by c.args.machine.now.hart) (taken_by c.loop-made.machine.hart) c.loop-made-test.false c.loop-made.invariant.going)
-
-pub returns-clause-idle : goal.returns-clause-idle
-returns-clause-idle g c =
-    ap (λ r. r.idle) (turns_end c.args.turns c.loop-made._made (world_of c.args.self.now c.args.machine.now.mem) (world_of c.loop-made.self c.loop-made.machine.mem) c.loop-made.idle (taken_by c.args.machine.now.hart) (taken_by c.loop-made.machine.hart) c.loop-made-test.false c.loop-made.invariant.going)
-
-pub returns-clause-unbuilt : goal.returns-clause-unbuilt
-returns-clause-unbuilt g c =
-    ap (λ r. r.unbuilt) (turns_end c.args.turns c.loop-made._made (world_of c.args.self.now c.args.machine.now.mem) (world_of c.loop-made.self c.loop-made.machine.mem) c.loop-made.idle (taken_by c.args.machine.now.hart) (taken_by c.loop-made.machine.hart) c.loop-made-test.false c.loop-made.invariant.going)
-
-pub returns-clause-work : goal.returns-clause-work
-returns-clause-work g c =
-    let end = ap (λ r. r.work) (turns_end c.args.turns c.loop-made._made (world_of c.args.self.now c.args.machine.now.mem) (world_of c.loop-made.self c.loop-made.machine.mem) c.loop-made.idle (taken_by c.args.machine.now.hart) (taken_by c.loop-made.machine.hart) c.loop-made-test.false c.loop-made.invariant.going) in
-    omega (arith, end, c.loop-made.invariant.going.counted)
+pub returns-clause-end : goal.returns-clause-end
+returns-clause-end g c =
+    turns_end c.args.turns c.loop-made._made (world_of c.args.self.now c.args.machine.now.mem) (world_of c.loop-made.self c.loop-made.machine.mem) c.loop-made.idle (taken_by c.args.machine.now.hart) (taken_by c.loop-made.machine.hart) c.loop-made-test.false c.loop-made.invariant.going

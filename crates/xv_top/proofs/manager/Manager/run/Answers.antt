@@ -24,7 +24,7 @@ returns-in-None-clause-answer g c =
     let w = world_of c.args.self.now c.args.machine.now.mem in
     let run = run_of c.args.turns w in
     let few : w.turns + c.args.turns ≤ most_turns = omega (arith, c.if-self-turns.false, c.requires.sound.turns) in
-    let end = c.make_turns-end.ensures in
+    let end = c.make_turns-end.ensures.end in
     gives_by _ (record { text = ran_text c.args.turns run.idle run.world.clock; world = run.world; entered = run.entered })
     (run_is w c.args.turns ∙ (cond-false _ _ _ (le-ltb most_turns (w.turns + c.args.turns) few) ∙ ap (ran_answer c.args.turns run) (end.unbuilt ∙ c.in-None.is)))
     (record {
@@ -39,14 +39,14 @@ pub returns-in-None-clause-work : goal.returns-in-None-clause-work
 returns-in-None-clause-work g c =
     let w = world_of c.args.self.now c.args.machine.now.mem in
     let few : w.turns + c.args.turns ≤ most_turns = omega (arith, c.if-self-turns.false, c.requires.sound.turns) in
-    omega (arith, c.make_turns-end.ensures.work, work_is w c.args.turns ∙ cond-false _ 0 (run_of c.args.turns w).work (le-ltb most_turns (w.turns + c.args.turns) few))
+    omega (arith, c.make_turns-end.ensures.end.work, work_is w c.args.turns ∙ cond-false _ 0 (run_of c.args.turns w).work (le-ltb most_turns (w.turns + c.args.turns) few))
 
 pub returns-in-Some-clause-answer : goal.returns-in-Some-clause-answer
 returns-in-Some-clause-answer g c =
     let w = world_of c.args.self.now c.args.machine.now.mem in
     let run = run_of c.args.turns w in
     let few : w.turns + c.args.turns ≤ most_turns = omega (arith, c.if-self-turns.false, c.requires.sound.turns) in
-    let end = c.make_turns-end.ensures in
+    let end = c.make_turns-end.ensures.end in
     gives_by _ (record { text = unbuilt_text c.in-Some.pc; world = run.world; entered = run.entered })
     (run_is w c.args.turns ∙ (cond-false _ _ _ (le-ltb most_turns (w.turns + c.args.turns) few) ∙ ap (ran_answer c.args.turns run) (end.unbuilt ∙ c.in-Some.is)))
     (record { text = c.unbuilt.ensures; world = sym end.world })
@@ -55,4 +55,4 @@ pub returns-in-Some-clause-work : goal.returns-in-Some-clause-work
 returns-in-Some-clause-work g c =
     let w = world_of c.args.self.now c.args.machine.now.mem in
     let few : w.turns + c.args.turns ≤ most_turns = omega (arith, c.if-self-turns.false, c.requires.sound.turns) in
-    omega (arith, c.make_turns-end.ensures.work, work_is w c.args.turns ∙ cond-false _ 0 (run_of c.args.turns w).work (le-ltb most_turns (w.turns + c.args.turns) few))
+    omega (arith, c.make_turns-end.ensures.end.work, work_is w c.args.turns ∙ cond-false _ 0 (run_of c.args.turns w).work (le-ltb most_turns (w.turns + c.args.turns) few))
