@@ -22,6 +22,18 @@ const NO_FAULTS: Faults = Faults {
     room: 4096,
 };
 
+fn reads_fail(reads: &'static [u64]) -> Faults {
+    Faults { reads, ..NO_FAULTS }
+}
+
+fn puts_fail(puts: &'static [u64]) -> Faults {
+    Faults { puts, ..NO_FAULTS }
+}
+
+fn room_of(room: usize) -> Faults {
+    Faults { room, ..NO_FAULTS }
+}
+
 /// A script of one run, and the parts of its transcript.
 struct Row {
     message: &'static str,
@@ -235,6 +247,8 @@ x4=0000000000000000 x5=0000000000000007 x6=0000000000000006 x7=000000000000000d
     },
 ];
 
+const UNBUILT: &[u8] = b"script 0 unbuilt\n";
+
 /// Scripts that are outside of the grammar.
 const REFUSED: [&[u8]; 9] = [
     b"",
@@ -314,12 +328,21 @@ fn refusals_of_words_and_scripts(rt: HostRuntime) -> Result<(), Fail> {
     for script in REFUSED {
         let (status, taken) = run(rt.alloc(), &["boot"], script, NO_FAULTS)?;
         assert_eq!(rt; status, 3, "{script:?}");
-        assert_eq!(rt;
-            taken.as_slice(),
-            b"script 0 unbuilt\n".as_slice(),
-            "{script:?}"
-        );
+        assert_eq!(rt; taken.as_slice(), UNBUILT, "{script:?}");
     }
+    Ok(())
+}
+
+/// The first script with so many empty bytes behind it that its length is one over the limit.
+#[test]
+fn a_script_that_is_too_long(rt: HostRuntime) -> Result<(), Fail> {
+    let mut script = FIRST.to_vec(rt.alloc())?;
+    while script.len() < 1_048_577 {
+        script.push(0)?;
+    }
+    let (status, taken) = run(rt.alloc(), &["boot"], &script, NO_FAULTS)?;
+    assert_eq!(rt; status, 3);
+    assert_eq!(rt; taken.as_slice(), UNBUILT);
     Ok(())
 }
 
@@ -327,105 +350,17 @@ fn refusals_of_words_and_scripts(rt: HostRuntime) -> Result<(), Fail> {
 fn faults_of_source_and_sink(rt: HostRuntime) -> Result<(), Fail> {
     // The status, and how many answers were taken.
     let rows: [(Faults, &[u8], u8, usize); 11] = [
-        (
-            Faults {
-                reads: &[0],
-                ..NO_FAULTS
-            },
-            FIRST,
-            4,
-            0,
-        ),
-        (
-            Faults {
-                reads: &[1],
-                ..NO_FAULTS
-            },
-            FIRST,
-            4,
-            0,
-        ),
-        (
-            Faults {
-                puts: &[0],
-                ..NO_FAULTS
-            },
-            FIRST,
-            5,
-            0,
-        ),
-        (
-            Faults {
-                puts: &[1],
-                ..NO_FAULTS
-            },
-            FIRST,
-            5,
-            1,
-        ),
-        (
-            Faults {
-                puts: &[2],
-                ..NO_FAULTS
-            },
-            FIRST,
-            5,
-            2,
-        ),
-        (
-            Faults {
-                puts: &[3],
-                ..NO_FAULTS
-            },
-            FIRST,
-            5,
-            3,
-        ),
-        (
-            Faults {
-                puts: &[4],
-                ..NO_FAULTS
-            },
-            FIRST,
-            5,
-            4,
-        ),
-        (
-            Faults {
-                room: 20,
-                ..NO_FAULTS
-            },
-            FIRST,
-            5,
-            0,
-        ),
-        (
-            Faults {
-                room: 50,
-                ..NO_FAULTS
-            },
-            FIRST,
-            5,
-            2,
-        ),
-        (
-            Faults {
-                puts: &[0],
-                ..NO_FAULTS
-            },
-            b"",
-            5,
-            0,
-        ),
-        (
-            Faults {
-                room: 16,
-                ..NO_FAULTS
-            },
-            b"",
-            5,
-            0,
-        ),
+        (reads_fail(&[0]), FIRST, 4, 0),
+        (reads_fail(&[1]), FIRST, 4, 0),
+        (puts_fail(&[0]), FIRST, 5, 0),
+        (puts_fail(&[1]), FIRST, 5, 1),
+        (puts_fail(&[2]), FIRST, 5, 2),
+        (puts_fail(&[3]), FIRST, 5, 3),
+        (puts_fail(&[4]), FIRST, 5, 4),
+        (room_of(20), FIRST, 5, 0),
+        (room_of(50), FIRST, 5, 2),
+        (puts_fail(&[0]), b"", 5, 0),
+        (room_of(16), b"", 5, 0),
     ];
     for (faults, script, status, answers) in rows {
         let message = (faults.reads, faults.puts, faults.room);
