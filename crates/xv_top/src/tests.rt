@@ -333,13 +333,14 @@ fn refusals_of_words_and_scripts(rt: HostRuntime) -> Result<(), Fail> {
     Ok(())
 }
 
-/// The first script with so many empty bytes behind it that its length is one over the limit.
+/// A script of 1,048,577 bytes that is in the grammar but for its length.
 #[test]
 fn a_script_that_is_too_long(rt: HostRuntime) -> Result<(), Fail> {
-    let mut script = FIRST.to_vec(rt.alloc())?;
-    while script.len() < 1_048_577 {
-        script.push(0)?;
+    let mut script = Vec::from_slice(rt.alloc(), b"guest flat a 4\nguest poke a 0 ")?;
+    for _ in 0..524_256 {
+        script.extend_from_slice(b"00")?;
     }
+    script.extend_from_slice(b"\nguest kick a\nrun 1\nguest regs a 0\n")?;
     let (status, taken) = run(rt.alloc(), &["boot"], &script, NO_FAULTS)?;
     assert_eq!(rt; status, 3);
     assert_eq!(rt; taken.as_slice(), UNBUILT);
