@@ -1,0 +1,2 @@
+pub mod ReadersAgree
+pub mod Examples

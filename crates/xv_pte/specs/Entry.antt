@@ -1,0 +1,60 @@
+-- The fields of an entry of a page table (Privileged Architecture 20211203, section 4.4.1).
+-- An entry is a number below 2^64.
+use Rattle.std.specs.Prelude.{ℕ, ◌/◌, ◌%◌, ◌^◌, ◌==◌, Bool, not, ◌&&◌, ◌||◌, if◌then◌else◌}
+use Rattle.std.specs.Int.{bit_at}
+
+abbrev pub bit : ℕ → ℕ → Bool
+bit k entry = bit_at entry k == 1
+
+abbrev pub is_valid : ℕ → Bool
+is_valid entry = bit 0 entry
+
+abbrev pub is_readable : ℕ → Bool
+is_readable entry = bit 1 entry
+
+abbrev pub is_writable : ℕ → Bool
+is_writable entry = bit 2 entry
+
+abbrev pub is_executable : ℕ → Bool
+is_executable entry = bit 3 entry
+
+abbrev pub is_users : ℕ → Bool
+is_users entry = bit 4 entry
+
+abbrev pub is_accessed : ℕ → Bool
+is_accessed entry = bit 6 entry
+
+abbrev pub is_dirty : ℕ → Bool
+is_dirty entry = bit 7 entry
+
+-- the physical page number, bits 53:10
+abbrev pub page_number : ℕ → ℕ
+page_number entry = entry / 2 ^ 10 % 2 ^ 44
+
+-- bits 63:54, which must be 0
+abbrev pub reserved_bits : ℕ → ℕ
+reserved_bits entry = entry / 2 ^ 54
+
+-- what an entry is, wherever it stands
+pub data Kind : Type 0 where
+  -- no translation goes over it
+  Broken : Kind
+  -- it names the table of the next level
+  Pointer : (page : ℕ) → Kind
+  -- it maps a page
+  Leaf : Kind
+
+-- an entry without V, with a reserved bit, or that may be written and not read
+abbrev pub is_broken : ℕ → Bool
+is_broken entry = not (is_valid entry) || not (reserved_bits entry == 0) || (is_writable entry && not (is_readable entry))
+
+-- R, W and X all 0
+abbrev pub is_pointer : ℕ → Bool
+is_pointer entry = not (is_readable entry) && not (is_writable entry) && not (is_executable entry)
+
+-- a pointer whose A, D and U, which are reserved there, are 0
+abbrev pub pointer : ℕ → Kind
+pointer entry = if is_accessed entry || is_dirty entry || is_users entry then Broken else Pointer (page_number entry)
+
+unfoldable pub kind_of : ℕ → Kind
+kind_of entry = if is_broken entry then Broken else if is_pointer entry then pointer entry else Leaf

@@ -1,0 +1,133 @@
+-- Sv39: what becomes of a virtual address (Privileged Architecture 20211203, sections 4.3.2 and 4.4).
+-- A reader gives the little-endian word of 8 bytes at a guest physical address, or none where there is
+-- no memory.
+use Rattle.std.specs.Prelude.{ℕ, zero, suc, ◌+◌, ◌-◌, ◌*◌, ◌/◌, ◌%◌, ◌^◌, ◌==◌, Bool, true, false, not, ◌&&◌, ◌||◌, if◌then◌else◌, List, [], ◌∷◌, Option, Some, None}
+use Rattle.xv_pte.specs.Entry.{Kind, Broken, Pointer, Leaf, kind_of, page_number, is_readable, is_writable, is_executable, is_users, is_accessed, is_dirty}
+
+abbrev pub Reader : Type 0
+Reader = ℕ → Option ℕ
+
+-- what memory is asked for. LR is a load; SC and an AMO are stores
+pub data Access : Type 0 where
+  Fetch : Access
+  Load : Access
+  Store : Access
+
+-- what of a hart decides on its accesses: satp, whether the mode is U, and SUM and MXR of sstatus
+pub record View : Type 0 where
+  pub satp : ℕ
+  pub user : Bool
+  pub sum : Bool
+  pub mxr : Bool
+
+pub data Verdict : Type 0 where
+  -- the guest physical address
+  Address : (gpa : ℕ) → Verdict
+  PageFault : Verdict
+  -- the entry that is needed there has no memory
+  NoEntry : (gpa : ℕ) → Verdict
+
+-- ---- the walk, from level 2 down to level 0
+
+-- the bytes of a page that stand in a leaf of this level are 2^(12 + 9 * level)
+abbrev pub page_bits : ℕ → ℕ
+page_bits level = 12 + 9 * level
+
+-- where the entry for a virtual address stands in the table of this page number and level
+abbrev pub entry_address : ℕ → ℕ → ℕ → ℕ
+entry_address page level va = page * 4096 + 8 * (va / 2 ^ page_bits level % 2 ^ 9)
+
+-- where a walk ends
+pub data Walked : Type 0 where
+  Found : (level : ℕ) → (entry : ℕ) → Walked
+  Fault : Walked
+  Absent : (gpa : ℕ) → Walked
+
+-- what one entry makes of a walk: next is the walk through the table that a pointer names
+abbrev pub through : (ℕ → Walked) → ℕ → ℕ → Kind → Walked
+through next level entry Broken = Fault
+through next level entry (Pointer page) = next page
+through next level entry Leaf = Found level entry
+
+abbrev pub read_entry : (ℕ → Walked) → ℕ → ℕ → Option ℕ → Walked
+read_entry next level gpa None = Absent gpa
+read_entry next level gpa (Some entry) = through next level entry (kind_of entry)
+
+-- the walk of a virtual address over so many levels, from the table of this page number on. No level is
+-- below level 0: a pointer there is a fault
+unfoldable pub walked : Reader → ℕ → ℕ → ℕ → Walked
+walked read va zero page = Fault
+walked read va (suc level) page =
+    read_entry (walked read va level) level (entry_address page level va) (read (entry_address page level va))
+
+-- ---- permission
+
+-- what an access in U (true) or S needs of a leaf (4.3.1, 4.4.1)
+abbrev pub is_permitted : Access → Bool → View → ℕ → Bool
+is_permitted Fetch true v entry = is_executable entry && is_users entry
+is_permitted Fetch false v entry = is_executable entry && not (is_users entry)
+is_permitted Load true v entry = (is_readable entry || (v.mxr && is_executable entry)) && is_users entry
+is_permitted Load false v entry = (is_readable entry || (v.mxr && is_executable entry)) && (not (is_users entry) || v.sum)
+is_permitted Store true v entry = is_writable entry && is_users entry
+is_permitted Store false v entry = is_writable entry && (not (is_users entry) || v.sum)
+
+-- the bits that the hart would set, and doesn't
+abbrev pub is_marked : Access → ℕ → Bool
+is_marked Fetch entry = is_accessed entry
+is_marked Load entry = is_accessed entry
+is_marked Store entry = is_accessed entry && is_dirty entry
+
+-- the page number of a leaf is a multiple of the pages that it maps
+abbrev pub is_aligned : ℕ → ℕ → Bool
+is_aligned level entry = page_number entry % 2 ^ (9 * level) == 0
+
+-- ---- the verdict
+
+-- the page of the leaf, and the offset in it
+abbrev pub leaf_address : ℕ → ℕ → ℕ → ℕ
+leaf_address level entry va = page_number entry * 4096 + va % 2 ^ page_bits level
+
+abbrev pub judged : View → ℕ → Access → Walked → Verdict
+judged v va access Fault = PageFault
+judged v va access (Absent gpa) = NoEntry gpa
+judged v va access (Found level entry) =
+    if is_aligned level entry && is_marked access entry && is_permitted access v.user v entry
+    then Address (leaf_address level entry va)
+    else PageFault
+
+-- satp: MODE 63:60, of which 0 is Bare and else is Sv39, and the page number of the root table, 43:0
+abbrev pub is_bare : View → Bool
+is_bare v = v.satp / 2 ^ 60 == 0
+
+abbrev pub root_page : View → ℕ
+root_page v = v.satp % 2 ^ 44
+
+-- bits 63:39 equal bit 38
+abbrev pub is_canonical : ℕ → Bool
+is_canonical va = va / 2 ^ 38 == 0 || va / 2 ^ 38 == 2 ^ 26 - 1
+
+unfoldable pub verdict : Reader → View → ℕ → Access → Verdict
+verdict read v va access =
+    if is_bare v then Address va
+    else if is_canonical va then judged v va access (walked read va 3 (root_page v))
+    else PageFault
+
+-- ---- the addresses of the entries that a walk reads, in order
+
+abbrev pub then_asked : (ℕ → List ℕ) → Kind → List ℕ
+then_asked next Broken = []
+then_asked next (Pointer page) = next page
+then_asked next Leaf = []
+
+abbrev pub asked_after : (ℕ → List ℕ) → Option ℕ → List ℕ
+asked_after next None = []
+asked_after next (Some entry) = then_asked next (kind_of entry)
+
+unfoldable pub asked_by_walk : Reader → ℕ → ℕ → ℕ → List ℕ
+asked_by_walk read va zero page = []
+asked_by_walk read va (suc level) page =
+    entry_address page level va ∷ asked_after (asked_by_walk read va level) (read (entry_address page level va))
+
+unfoldable pub asked : Reader → View → ℕ → List ℕ
+asked read v va =
+    if is_bare v then [] else if is_canonical va then asked_by_walk read va 3 (root_page v) else []

@@ -1,0 +1,199 @@
+-- Worked rows of the definitions, computed by the checker: short programs over 64 bytes of memory, in which
+-- an ask is answered as a machine without devices and without calls would.
+use Rattle.std.proofs.Common.{◌≡◌, ℕ, zero, suc, ◌+◌, ◌-◌, ◌*◌, ◌/◌, ◌%◌, ◌^◌, ◌==◌, ◌++◌, Bool, true, false, ◌&&◌, if◌then◌else◌, List, [], ◌∷◌, map, length, Some, None, refl, nat_le}
+use Rattle.std.specs.Prelude.{replicate, slice_index, slice_set}
+use Rattle.xv_isa.specs.Effects as effects
+use Rattle.xv_isa.specs.Effects.{effect_of}
+use Rattle.xv_isa.specs.Operands.{decode_of}
+use Rattle.xv_isa.specs.Rows.{row_of, rows, form_of, operation_at}
+use Rattle.xv_csr.specs.Reset.{reset_csrs}
+use Rattle.xv_csr.specs.Kept.{kept_stvec}
+use Rattle.xv_csr.specs.Pending.{chosen_interrupt, pending, sip_of}
+use Rattle.xv_csr.specs.Table.{csr_read, csr_written, register_of}
+use Rattle.xv_csr.specs.Trap.{entered, handler, returned, returns_to_user}
+use Rattle.xv_csr.specs.declared.SCsrs.{SCsrs}
+use Rattle.xv_step.specs.Bus.{Bus}
+use Rattle.xv_step.specs.State.{State, set, trapped}
+use Rattle.xv_step.specs.Outcome.{Ask, Entry, Target, Plain, Call, Wait, Outcome, Went, Left, access_fault}
+use Rattle.xv_step.specs.Perform.{Inputs}
+use Rattle.xv_step.specs.Step.{step}
+use Rattle.xv_pte.specs.Sv39 as sv39
+
+-- ---- 64 bytes of memory from 0x80000000 on
+
+base : ℕ
+base = 0x8000_0000
+
+bytes_of : ℕ → ℕ → List ℕ
+bytes_of zero n = []
+bytes_of (suc width) n = n % 256 ∷ bytes_of width (n / 256)
+
+number_at : List ℕ → ℕ → ℕ → ℕ
+number_at memory zero at = 0
+number_at memory (suc width) at = slice_index memory at + 256 * number_at memory width (at + 1)
+
+stored_at : List ℕ → ℕ → List ℕ → List ℕ
+stored_at memory at [] = memory
+stored_at memory at (b ∷ bs) = stored_at (slice_set memory at b) (at + 1) bs
+
+bus : Bus (List ℕ) ℕ
+bus = record {
+  find = λ width gpa. if nat_le base gpa && nat_le (gpa + width) (base + 64) then Some (record { place = gpa - base; writable = true }) else None;
+  get = λ memory width at. number_at memory width at;
+  put = λ memory width at value. stored_at memory at (bytes_of width value);
+  same = λ a b. a == b;
+}
+
+inputs : Inputs
+inputs = record { lines = record { timer = false; external = false }; time = 7 }
+
+-- ---- a machine by itself
+
+plain_kind : effects.Access → sv39.Access
+plain_kind (effects.Load width signed va rd) = sv39.Load
+plain_kind (effects.Store width va value) = sv39.Store
+
+answer : State (List ℕ) ℕ → Ask → State (List ℕ) ℕ
+answer s (Entry access va gpa) = trapped (access_fault access) va s
+answer s (Target access va gpa) = trapped (access_fault access) va s
+answer s (Plain access va gpa) = trapped (access_fault (plain_kind access)) va s
+answer s Call = record (set 10 (2 ^ 64 - 2) (set 11 0 s)) { pc = s.pc + 4 }
+answer s Wait = record s { pc = s.pc + 4 }
+
+answered : State (List ℕ) ℕ → Outcome (List ℕ) ℕ → State (List ℕ) ℕ
+answered s (Went t) = t
+answered s (Left ask) = answer s ask
+
+steps : ℕ → State (List ℕ) ℕ → State (List ℕ) ℕ
+steps zero s = s
+steps (suc n) s = steps n (answered s (step bus inputs s))
+
+memory_of : List ℕ → List ℕ
+memory_of [] = []
+memory_of (word ∷ words) = bytes_of 4 word ++ memory_of words
+
+-- a hart in S at the first of these words, with zeros behind them
+start : List ℕ → State (List ℕ) ℕ
+start words = record {
+  x = replicate 32 0;
+  pc = base;
+  user = false;
+  csrs = reset_csrs;
+  held = None;
+  memory = memory_of words ++ replicate (64 - 4 * length words) 0;
+}
+
+in_user : State (List ℕ) ℕ → State (List ℕ) ℕ
+in_user s = record s { user = true }
+
+with_csrs : SCsrs → State (List ℕ) ℕ → State (List ℕ) ℕ
+with_csrs csrs s = record s { csrs = csrs }
+
+-- ---- what is looked at
+
+-- scause, sepc, stval and the pc
+trap_of : State (List ℕ) ℕ → List ℕ
+trap_of s = s.csrs.scause ∷ s.csrs.sepc ∷ s.csrs.stval ∷ s.pc ∷ []
+
+registers : List ℕ → State (List ℕ) ℕ → List ℕ
+registers [] s = []
+registers (k ∷ ks) s = slice_index s.x k ∷ registers ks s
+
+mode_of : Bool → ℕ
+mode_of true = 0
+mode_of false = 1
+
+-- the pc, the mode (U 0, S 1) and sstatus without UXL
+mode : State (List ℕ) ℕ → List ℕ
+mode s = s.pc ∷ mode_of s.user ∷ s.csrs.sstatus % 2 ^ 32 ∷ []
+
+-- the 8 bytes at offset 32
+word : State (List ℕ) ℕ → List ℕ
+word s = number_at s.memory 8 32 ∷ []
+
+-- ---- the rows: what is looked at, and what it is
+
+-- so many steps from the first of these words
+ran : ℕ → List ℕ → State (List ℕ) ℕ
+ran n words = steps n (start words)
+
+ran_in_user : List ℕ → State (List ℕ) ℕ
+ran_in_user words = steps 1 (in_user (start words))
+
+-- x5 is the address of offset 32
+at_x5 : List ℕ → List ℕ
+at_x5 words = 0x00000297 ∷ 0x02028293 ∷ words
+
+ones : ℕ
+ones = 2 ^ 64 - 1
+
+table : List (List ℕ × List ℕ)
+table =
+    -- a load where there is no memory, with stvec set: the handler runs on
+    (trap_of (ran 8 (0x00000297 ∷ 0x01828293 ∷ 0x10529073 ∷ 0x00100313 ∷ 0x02931313 ∷ 0x00033383 ∷ 0x0000006f ∷ [])), 5 ∷ 0x8000_0014 ∷ 0x200_0000_0000 ∷ 0x8000_0018 ∷ [])
+    -- LUI, DIVW by zero, REMW by zero, DIVW of the least by -1
+    ∷ (registers (5 ∷ 6 ∷ 7 ∷ 8 ∷ 9 ∷ []) (ran 8 (0x800002b7 ∷ 0x0202c33b ∷ 0xfff00393 ∷ 0x0202e43b ∷ 0x0272c4bb ∷ 0x0000006f ∷ [])), 0xffff_ffff_8000_0000 ∷ ones ∷ ones ∷ 0xffff_ffff_8000_0000 ∷ 0xffff_ffff_8000_0000 ∷ [])
+    -- a word that is no row, and then a fetch at 0
+    ∷ (trap_of (ran 1 (0 ∷ [])), 2 ∷ base ∷ 0 ∷ 0 ∷ [])
+    ∷ (trap_of (ran 2 (0 ∷ [])), 1 ∷ 0 ∷ 0 ∷ 0 ∷ [])
+    -- LR.D, SD, SC.D: a store leaves the reservation
+    ∷ (registers (7 ∷ []) (ran 5 (at_x5 (0x1002b32f ∷ 0x0052b023 ∷ 0x1852b3af ∷ []))), 0 ∷ [])
+    ∷ (word (ran 5 (at_x5 (0x1002b32f ∷ 0x0052b023 ∷ 0x1852b3af ∷ []))), 0x8000_0020 ∷ [])
+    -- LR.W, SC.D: another width
+    ∷ (registers (7 ∷ []) (ran 4 (at_x5 (0x1002a32f ∷ 0x1852b3af ∷ []))), 1 ∷ [])
+    -- LR.D, ECALL, SC.D: a call leaves the reservation
+    ∷ (registers (7 ∷ 10 ∷ 11 ∷ []) (ran 5 (at_x5 (0x1002b32f ∷ 0x00000073 ∷ 0x1852b3af ∷ []))), 0 ∷ (2 ^ 64 - 2) ∷ 0 ∷ [])
+    -- SC.D without a reservation stores nothing, and so does the second SC.D of two
+    ∷ (registers (7 ∷ []) (ran 3 (at_x5 (0x1852b3af ∷ []))), 1 ∷ [])
+    ∷ (word (ran 3 (at_x5 (0x1852b3af ∷ []))), 0 ∷ [])
+    ∷ (registers (7 ∷ []) (ran 5 (at_x5 (0x1002b32f ∷ 0x1852b3af ∷ 0x1852b3af ∷ []))), 1 ∷ [])
+    -- AMOADD.W of 2 to -1: the old bytes with their sign, and 4 bytes stored
+    ∷ (registers (8 ∷ []) (ran 6 (at_x5 (0xfff00313 ∷ 0x0062b023 ∷ 0x00200393 ∷ 0x0072a42f ∷ []))), ones ∷ [])
+    ∷ (word (ran 6 (at_x5 (0xfff00313 ∷ 0x0062b023 ∷ 0x00200393 ∷ 0x0072a42f ∷ []))), 0xffff_ffff_0000_0001 ∷ [])
+    -- LB extends with the sign, LBU with zeros
+    ∷ (registers (9 ∷ []) (ran 5 (at_x5 (0xfff00313 ∷ 0x0062b023 ∷ 0x00028483 ∷ []))), ones ∷ [])
+    ∷ (registers (9 ∷ []) (ran 5 (at_x5 (0xfff00313 ∷ 0x0062b023 ∷ 0x0002c483 ∷ []))), 255 ∷ [])
+    -- misaligned: LD, SD, and a jump, which writes no link
+    ∷ (trap_of (ran 2 (0x00000297 ∷ 0x0012b303 ∷ [])), 4 ∷ 0x8000_0004 ∷ 0x8000_0001 ∷ 0 ∷ [])
+    ∷ (trap_of (ran 2 (0x00000297 ∷ 0x0052b223 ∷ [])), 6 ∷ 0x8000_0004 ∷ 0x8000_0004 ∷ 0 ∷ [])
+    ∷ (trap_of (ran 1 (0x006000ef ∷ [])), 0 ∷ base ∷ 0x8000_0006 ∷ 0 ∷ [])
+    ∷ (registers (1 ∷ []) (ran 1 (0x006000ef ∷ [])), 0 ∷ [])
+    -- no memory at 0: SD, SC.D without a reservation, LR.D, AMOADD.D
+    ∷ (trap_of (ran 1 (0x00003023 ∷ [])), 7 ∷ base ∷ 0 ∷ 0 ∷ [])
+    ∷ (trap_of (ran 1 (0x180033af ∷ [])), 7 ∷ base ∷ 0 ∷ 0 ∷ [])
+    ∷ (trap_of (ran 1 (0x1000332f ∷ [])), 5 ∷ base ∷ 0 ∷ 0 ∷ [])
+    ∷ (trap_of (ran 1 (0x0050332f ∷ [])), 7 ∷ base ∷ 0 ∷ 0 ∷ [])
+    -- EBREAK; in U: ECALL, SRET, WFI, SFENCE.VMA, a read of sstatus, and one of time with scounteren 0
+    ∷ (trap_of (ran 1 (0x00100073 ∷ [])), 3 ∷ base ∷ base ∷ 0 ∷ [])
+    ∷ (trap_of (ran_in_user (0x00000073 ∷ [])), 8 ∷ base ∷ 0 ∷ 0 ∷ [])
+    ∷ (trap_of (ran_in_user (0x10200073 ∷ [])), 2 ∷ base ∷ 0x10200073 ∷ 0 ∷ [])
+    ∷ (trap_of (ran_in_user (0x10500073 ∷ [])), 2 ∷ base ∷ 0x10500073 ∷ 0 ∷ [])
+    ∷ (trap_of (ran_in_user (0x12000073 ∷ [])), 2 ∷ base ∷ 0x12000073 ∷ 0 ∷ [])
+    ∷ (trap_of (ran_in_user (0x100020f3 ∷ [])), 2 ∷ base ∷ 0x100020f3 ∷ 0 ∷ [])
+    ∷ (trap_of (ran_in_user (0xc01020f3 ∷ [])), 2 ∷ base ∷ 0xc01020f3 ∷ 0 ∷ [])
+    -- in S: a read of time, a write of it, and a number that no CSR has
+    ∷ (registers (1 ∷ []) (ran 1 (0xc01020f3 ∷ [])), 7 ∷ [])
+    ∷ (trap_of (ran 1 (0xc0101073 ∷ [])), 2 ∷ base ∷ 0xc0101073 ∷ 0 ∷ [])
+    ∷ (trap_of (ran 1 (0x7c001073 ∷ [])), 2 ∷ base ∷ 0x7c001073 ∷ 0 ∷ [])
+    -- a trap from S and one from U: SPP, SPIE and SIE
+    ∷ (mode (ran 1 (0x00100073 ∷ [])), 0 ∷ 1 ∷ 256 ∷ [])
+    ∷ (mode (ran_in_user (0x00100073 ∷ [])), 0 ∷ 1 ∷ 0 ∷ [])
+    -- SRET to U, where SPP is 0 and SPIE 1
+    ∷ (mode (steps 1 (with_csrs (record reset_csrs { sepc = 0x8000_0008; sstatus = reset_csrs.sstatus + 32 }) (start (0x10200073 ∷ [])))), 0x8000_0008 ∷ 0 ∷ 34 ∷ [])
+    -- the software interrupt, vectored: taken in S where SIE is 1 and in U always
+    ∷ (trap_of (steps 1 (with_csrs (software (reset_csrs.sstatus + 2)) (start (0x00000013 ∷ [])))), (2 ^ 63 + 1) ∷ base ∷ 0 ∷ 0x8000_0024 ∷ [])
+    ∷ (trap_of (steps 1 (with_csrs (software reset_csrs.sstatus) (start (0x00000013 ∷ [])))), 0 ∷ 0 ∷ 0 ∷ 0x8000_0004 ∷ [])
+    ∷ (trap_of (steps 1 (in_user (with_csrs (software reset_csrs.sstatus) (start (0x00000013 ∷ []))))), (2 ^ 63 + 1) ∷ base ∷ 0 ∷ 0x8000_0024 ∷ [])
+    ∷ []
+  where
+    software : ℕ → SCsrs
+    software status = record reset_csrs { ssip = true; sie = 2; stvec = 0x8000_0021; sstatus = status }
+
+the_rows : map (λ r. r.0) table ≡ map (λ r. r.1) table
+unfolding start ran ran_in_user at_x5 ones table in_user with_csrs trap_of registers mode mode_of word steps memory_of bytes_of number_at stored_at bus inputs base answered answer plain_kind step decode_of row_of rows form_of operation_at effect_of chosen_interrupt pending sip_of csr_read csr_written register_of entered handler returned returns_to_user kept_stvec reset_csrs sv39.verdict
+the_rows = refl
+
+-- WFI in S is left to who asks for the step
+wait : step bus inputs (start (0x10500073 ∷ [])) ≡ Left Wait
+unfolding start memory_of bytes_of number_at bus inputs base step decode_of row_of rows form_of operation_at effect_of chosen_interrupt pending sip_of reset_csrs sv39.verdict
+wait = refl

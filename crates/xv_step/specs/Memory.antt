@@ -1,0 +1,36 @@
+-- An access to memory: its alignment, its translation, its place.
+use Rattle.std.specs.Prelude.{ℕ, ◌%◌, ◌==◌, if◌then◌else◌, Option, Some, None}
+use Rattle.xv_pte.specs.Sv39 as sv39
+use Rattle.xv_pte.specs.Sv39.{Access, Verdict, Address, PageFault, NoEntry, verdict}
+use Rattle.xv_step.specs.Bus.{Bus, Spot, reader}
+use Rattle.xv_step.specs.State.{State, trapped, view}
+use Rattle.xv_step.specs.Outcome.{Ask, Entry, Outcome, Went, Left, misaligned, page_fault}
+
+-- where bytes stand that may be written. A store that finds none lacks its target
+abbrev pub writable_spot : {P : Type 0} → Option (Spot P) → Option (Spot P)
+writable_spot None = None
+writable_spot (Some spot) = if spot.writable then Some spot else None
+
+abbrev pub usable_spot : {P : Type 0} → Access → Option (Spot P) → Option (Spot P)
+usable_spot sv39.Fetch spot = spot
+usable_spot sv39.Load spot = spot
+usable_spot sv39.Store spot = writable_spot spot
+
+module _ {M P : Type 0} (bus : Bus M P) (s : State M P) (access : Access) (width va : ℕ) (lacks : ℕ → Ask) (done : P → Outcome M P) where
+  -- at the guest physical address: what is done at the place, or the ask where there is none
+  abbrev pub at_spot : ℕ → Option (Spot P) → Outcome M P
+  at_spot gpa None = Left (lacks gpa)
+  at_spot gpa (Some spot) = done spot.place
+
+  abbrev pub judged : Verdict → Outcome M P
+  judged (Address gpa) = at_spot gpa (usable_spot access (bus.find width gpa))
+  judged PageFault = Went (trapped (page_fault access) va s)
+  judged (NoEntry gpa) = Left (Entry access va gpa)
+
+  -- translation, and then the place
+  abbrev pub translated : Outcome M P
+  translated = judged (verdict (reader bus s.memory) (view s) va access)
+
+  -- alignment comes before translation
+  abbrev pub accessed : Outcome M P
+  accessed = if va % width == 0 then translated else Went (trapped (misaligned access) va s)

@@ -1,0 +1,131 @@
+-- What an instruction does: its action, row by row. Every case that isn't a trap or an ask goes on at the
+-- next instruction, but for jumps and SRET.
+use Rattle.std.specs.Prelude.{ℕ, ◌-◌, ◌%◌, ◌^◌, ◌==◌, Bool, true, false, ◌&&◌, if◌then◌else◌, Option, Some, None, bit_and, bit_or}
+use Rattle.xv_isa.specs.declared.rows.Op.{Op}
+use Rattle.xv_isa.specs.declared.instruction.Insn.{Insn}
+use Rattle.xv_isa.specs.Effects as effects
+use Rattle.xv_isa.specs.Effects.{CsrChange, Written, BitsSet, BitsCleared, Unwritten, extended, low_bytes, next_pc}
+use Rattle.xv_isa.specs.Results.{result_of}
+use Rattle.xv_csr.specs.declared.SCsrs.{SCsrs}
+use Rattle.xv_csr.specs.declared.Lines.{Lines}
+use Rattle.xv_csr.specs.Table.{csr_read, csr_written}
+use Rattle.xv_csr.specs.Trap.{returned, returns_to_user}
+use Rattle.xv_pte.specs.Sv39 as sv39
+use Rattle.xv_step.specs.Bus.{Bus}
+use Rattle.xv_step.specs.State.{Held, State, set, at_pc, trapped}
+use Rattle.xv_step.specs.Outcome.{Target, Plain, Call, Wait, Outcome, Went, Left, misaligned_fetch, illegal_instruction, breakpoint, call_from_user}
+use Rattle.xv_step.specs.Memory.{accessed}
+
+-- what comes to a hart from outside: its interrupt lines, and the time
+pub record Inputs : Type 0 where
+  pub lines : Lines
+  pub time : ℕ
+
+-- the number that a CSR is written with, of its old one
+abbrev pub changed : CsrChange → ℕ → Option ℕ
+changed (Written value) old = Some value
+changed (BitsSet value) old = Some (bit_or old value)
+changed (BitsCleared value) old = Some (bit_and old (2 ^ 64 - 1 - value))
+changed Unwritten old = None
+
+-- the CSRs after a write, if there is one; none where it is refused
+abbrev pub written_csrs : SCsrs → ℕ → Bool → Option ℕ → Option SCsrs
+written_csrs csrs number user None = Some csrs
+written_csrs csrs number user (Some value) = csr_written csrs number user value
+
+-- the reservation is of this place and width
+abbrev pub holds : {M P : Type 0} → Bus M P → ℕ → P → Option (Held P) → Bool
+holds bus width place None = false
+holds bus width place (Some held) = bus.same held.place place && held.width == width
+
+-- word is the instruction's, i what it decodes to
+module _ {M P : Type 0} (bus : Bus M P) (inputs : Inputs) (word : ℕ) (i : Insn) (s : State M P) where
+  -- the hart goes on at the next instruction
+  abbrev pub goes_on : State M P → Outcome M P
+  goes_on t = Went (at_pc (next_pc i s.pc) t)
+
+  abbrev pub illegal : Outcome M P
+  illegal = Went (trapped illegal_instruction word s)
+
+  -- in S alone: in U the instruction is illegal
+  abbrev pub in_supervisor : Outcome M P → Outcome M P
+  in_supervisor done = if s.user then illegal else done
+
+  -- a jump writes its link only where its target is aligned
+  abbrev pub jumped : ℕ → ℕ → ℕ → Outcome M P
+  jumped target rd link =
+      if target % 4 == 0 then Went (at_pc target (set rd link s)) else Went (trapped misaligned_fetch target s)
+
+  -- ---- memory
+
+  abbrev pub loaded : ℕ → Bool → ℕ → P → Outcome M P
+  loaded width signed rd place = goes_on (set rd (extended signed width (bus.get s.memory width place)) s)
+
+  abbrev pub stored : ℕ → ℕ → P → Outcome M P
+  stored width value place = goes_on (record s { memory = bus.put s.memory width place value })
+
+  abbrev pub plain : effects.Access → Outcome M P
+  plain (effects.Load width signed va rd) =
+      accessed bus s sv39.Load width va (Plain (effects.Load width signed va rd) va) (loaded width signed rd)
+  plain (effects.Store width va value) =
+      accessed bus s sv39.Store width va (Plain (effects.Store width va value) va) (stored width value)
+
+  abbrev pub reserved : ℕ → ℕ → P → Outcome M P
+  reserved width rd place =
+      goes_on (set rd (extended true width (bus.get s.memory width place)) (record s { held = Some (record { place = place; width = width }) }))
+
+  -- the reservation is gone whether it was held or not
+  abbrev pub conditional : ℕ → ℕ → ℕ → P → Outcome M P
+  conditional width value rd place =
+      if holds bus width place s.held
+      then goes_on (set rd 0 (record s { held = None; memory = bus.put s.memory width place value }))
+      else goes_on (set rd 1 (record s { held = None }))
+
+  -- the old bytes go to rd, and what the operation makes of them and the value is stored
+  abbrev pub modified : Op → ℕ → ℕ → ℕ → P → Outcome M P
+  modified op width value rd place =
+      let old = extended true width (bus.get s.memory width place) in
+      goes_on (set rd old (record s { memory = bus.put s.memory width place (low_bytes width (result_of op old value)) }))
+
+  -- ---- CSRs and modes
+
+  -- the old value goes to rd
+  abbrev pub csr_given : ℕ → ℕ → Option SCsrs → Outcome M P
+  csr_given rd old None = illegal
+  csr_given rd old (Some csrs) = goes_on (set rd old (record s { csrs = csrs }))
+
+  abbrev pub csr_changed : ℕ → CsrChange → ℕ → Option ℕ → Outcome M P
+  csr_changed number change rd None = illegal
+  csr_changed number change rd (Some old) =
+      csr_given rd old (written_csrs s.csrs number s.user (changed change old))
+
+  abbrev pub csr : ℕ → CsrChange → ℕ → Outcome M P
+  csr number change rd = csr_changed number change rd (csr_read s.csrs number s.user inputs.lines inputs.time)
+
+  -- ECALL: in U an exception; in S what answers is no part of the hart
+  abbrev pub called : Outcome M P
+  called = if s.user then Went (trapped call_from_user 0 s) else Left Call
+
+  -- SRET: the pc is sepc
+  abbrev pub returned_to : Outcome M P
+  returned_to = Went (record s { pc = s.csrs.sepc; user = returns_to_user s.csrs; csrs = returned s.csrs })
+
+  -- ---- the actions
+
+  abbrev pub performed : effects.Action → Outcome M P
+  performed (effects.Set rd value) = goes_on (set rd value s)
+  performed (effects.Jump target rd link) = jumped target rd link
+  performed (effects.Plain access) = plain access
+  performed (effects.LoadReserved width va rd) =
+      accessed bus s sv39.Load width va (Target sv39.Load va) (reserved width rd)
+  performed (effects.StoreConditional width va value rd) =
+      accessed bus s sv39.Store width va (Target sv39.Store va) (conditional width value rd)
+  performed (effects.Modify op width va value rd) =
+      accessed bus s sv39.Store width va (Target sv39.Store va) (modified op width value rd)
+  performed (effects.AccessCsr number change rd) = csr number change rd
+  performed effects.FenceTranslations = in_supervisor (goes_on s)
+  performed effects.Continue = goes_on s
+  performed effects.EnvironmentCall = called
+  performed effects.Breakpoint = Went (trapped breakpoint s.pc s)
+  performed effects.SupervisorReturn = in_supervisor returned_to
+  performed effects.WaitForInterrupt = in_supervisor (Left Wait)

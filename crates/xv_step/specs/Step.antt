@@ -1,0 +1,39 @@
+-- One step of a hart over a bus of memory (Privileged Architecture 20211203, sections 4.1 and 4.3).
+use Rattle.std.specs.Prelude.{ℕ, Option, Some, None}
+use Rattle.xv_isa.specs.declared.instruction.Insn.{Insn}
+use Rattle.xv_isa.specs.Effects.{effect_of}
+use Rattle.xv_isa.specs.Operands.{decode_of}
+use Rattle.xv_csr.specs.Pending.{chosen_interrupt}
+use Rattle.xv_pte.specs.Sv39 as sv39
+use Rattle.xv_step.specs.Bus.{Bus}
+use Rattle.xv_step.specs.State.{State, trapped}
+use Rattle.xv_step.specs.Outcome.{Target, Outcome, Went, illegal_instruction}
+use Rattle.xv_step.specs.Memory.{translated}
+use Rattle.xv_step.specs.Perform.{Inputs, performed}
+
+-- the bytes of a fetch
+abbrev pub fetch_width : ℕ
+fetch_width = 4
+
+module _ {M P : Type 0} (bus : Bus M P) (inputs : Inputs) (s : State M P) where
+  -- a word that is no row is illegal
+  abbrev pub executed : ℕ → Option Insn → Outcome M P
+  executed word None = Went (trapped illegal_instruction word s)
+  executed word (Some i) = performed bus inputs word i s (effect_of i s.x s.pc)
+
+  abbrev pub at_word : P → Outcome M P
+  at_word place =
+      let word = bus.get s.memory fetch_width place in
+      executed word (decode_of word)
+
+  -- the pc is a multiple of 4
+  abbrev pub fetched : Outcome M P
+  fetched = translated bus s sv39.Fetch fetch_width s.pc (Target sv39.Fetch s.pc) at_word
+
+  -- an interrupt is the whole step
+  abbrev pub interrupted : Option ℕ → Outcome M P
+  interrupted None = fetched
+  interrupted (Some cause) = Went (trapped cause 0 s)
+
+  unfoldable pub step : Outcome M P
+  step = interrupted (chosen_interrupt s.csrs s.user inputs.lines)
