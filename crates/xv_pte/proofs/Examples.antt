@@ -1,7 +1,10 @@
 -- Worked rows of the definitions, computed by the checker.
 use Rattle.std.proofs.Common.{◌≡◌, ℕ, ◌+◌, ◌*◌, ◌^◌, ◌==◌, Bool, true, false, if◌then◌else◌, List, [], ◌∷◌, Some, None, refl}
 use Rattle.xv_pte.specs.Entry.{kind_of}
-use Rattle.xv_pte.specs.Sv39.{Reader, Access, Fetch, Load, Store, View, Verdict, Address, PageFault, NoEntry, walked, verdict, asked_by_walk, asked}
+use Rattle.xv_pte.specs.declared.access.Kind3.{Kind3}
+use Rattle.xv_pte.specs.declared.access.Kind3.TheVariants.{Fetch, Load, Store}
+use Rattle.xv_pte.specs.declared.access.View.{View}
+use Rattle.xv_pte.specs.Sv39.{Reader, Verdict, Address, PageFault, NoEntry, walked, verdict, asked_by_walk, asked}
 
 -- a reader of so many words, each with its address
 reader_of : List (ℕ × ℕ) → Reader
@@ -34,7 +37,7 @@ over_root page flags = reader_of ((0x8000_0008, entry page flags) ∷ [])
 record Row : Type 0 where
   read : Reader
   view : View
-  access : Access
+  access : Kind3
   gives : Verdict
 
 verdicts : List Row → List Verdict
@@ -45,7 +48,7 @@ given : List Row → List Verdict
 given [] = []
 given (r ∷ rs) = r.gives ∷ given rs
 
-row : Reader → View → Access → Verdict → Row
+row : Reader → View → Kind3 → Verdict → Row
 row read view access gives = record { read = read; view = view; access = access; gives = gives }
 
 rows : List Row

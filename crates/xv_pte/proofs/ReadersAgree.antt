@@ -1,19 +1,24 @@
 -- Readers that give one word at each address that is asked give one verdict.
 use Rattle.std.proofs.Common.{◌≡◌, ℕ, zero, suc, Bool, true, false, cond, List, [], ◌∷◌, Option, Some, None, refl, sym, ap, ◌∙◌, subst}
 use Rattle.xv_pte.specs.Sv39.{Address, PageFault}
-use Rattle.xv_pte.specs.Entry.{Kind, Broken, Pointer, Leaf, kind_of}
-use Rattle.xv_pte.specs.Sv39.{Reader, View, Access, verdict, asked, judged, root_page, is_bare, is_canonical, walked, through, read_entry, entry_address, asked_by_walk, asked_after, then_asked}
+use Rattle.xv_pte.specs.declared.entry.Kind.{Kind}
+use Rattle.xv_pte.specs.declared.entry.Kind.TheVariants.{Broken, Pointer, Leaf}
+use Rattle.xv_pte.specs.Entry.{kind_of}
+use Rattle.xv_pte.specs.declared.access.Kind3.{Kind3}
+use Rattle.xv_pte.specs.declared.access.View.{View}
+use Rattle.xv_pte.specs.Sv39.{Reader, verdict, asked, judged, root_page, is_bare, is_canonical, walked, through, read_entry, entry_address, asked_by_walk, asked_after, then_asked}
 
 -- the readers give one word at each of the addresses
 abbrev pub Agree : Reader → Reader → List ℕ → Type 0
 Agree read other [] = Unit {0}
 Agree read other (gpa ∷ others) = (read gpa ≡ other gpa) × Agree read other others
 
-walked_suc : (read : Reader) (va level page : ℕ) → walked read va (suc level) page ≡ read_entry (walked read va level) level (entry_address page level va) (read (entry_address page level va))
+-- one level more
+pub walked_suc : (read : Reader) (va level page : ℕ) → walked read va (suc level) page ≡ read_entry (walked read va level) level (entry_address page level va) (read (entry_address page level va))
 unfolding walked
 walked_suc read va level page = refl
 
-asked_suc : (read : Reader) (va level page : ℕ) → asked_by_walk read va (suc level) page ≡ entry_address page level va ∷ asked_after (asked_by_walk read va level) (read (entry_address page level va))
+pub asked_suc : (read : Reader) (va level page : ℕ) → asked_by_walk read va (suc level) page ≡ entry_address page level va ∷ asked_after (asked_by_walk read va level) (read (entry_address page level va))
 unfolding asked_by_walk
 asked_suc read va level page = refl
 
@@ -44,7 +49,7 @@ module _ (read other : Reader) (va : ℕ) where
       ∙ (ap (read_entry (walked other va level) level here) both.0
       ∙ sym (walked_suc other va level page)))
 
-module _ (read other : Reader) (v : View) (va : ℕ) (access : Access) where
+module _ (read other : Reader) (v : View) (va : ℕ) (access : Kind3) where
   canonical_same : (canonical : Bool) → Agree read other (cond canonical (asked_by_walk read va 3 (root_page v)) [])
       → cond canonical (judged v va access (walked read va 3 (root_page v))) PageFault ≡ cond canonical (judged v va access (walked other va 3 (root_page v))) PageFault
   canonical_same true agree = ap (judged v va access) (walk_same read other va 3 (root_page v) agree)

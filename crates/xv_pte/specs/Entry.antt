@@ -1,7 +1,9 @@
 -- The fields of an entry of a page table (Privileged Architecture 20211203, section 4.4.1).
 -- An entry is a number below 2^64.
-use Rattle.std.specs.Prelude.{ℕ, ◌/◌, ◌%◌, ◌^◌, ◌==◌, Bool, not, ◌&&◌, ◌||◌, if◌then◌else◌}
+use Rattle.std.specs.Prelude.{ℕ, ◌<◌, ◌/◌, ◌%◌, ◌^◌, ◌==◌, Bool, not, ◌&&◌, ◌||◌, if◌then◌else◌}
 use Rattle.std.specs.Int.{bit_at}
+use Rattle.xv_pte.specs.declared.entry.Kind.{Kind}
+use Rattle.xv_pte.specs.declared.entry.Kind.TheVariants.{Broken, Pointer, Leaf}
 
 abbrev pub bit : ℕ → ℕ → Bool
 bit k entry = bit_at entry k == 1
@@ -35,15 +37,6 @@ page_number entry = entry / 2 ^ 10 % 2 ^ 44
 abbrev pub reserved_bits : ℕ → ℕ
 reserved_bits entry = entry / 2 ^ 54
 
--- what an entry is, wherever it stands
-pub data Kind : Type 0 where
-  -- no translation goes over it
-  Broken : Kind
-  -- it names the table of the next level
-  Pointer : (page : ℕ) → Kind
-  -- it maps a page
-  Leaf : Kind
-
 -- an entry without V, with a reserved bit, or that may be written and not read
 abbrev pub is_broken : ℕ → Bool
 is_broken entry = not (is_valid entry) || not (reserved_bits entry == 0) || (is_writable entry && not (is_readable entry))
@@ -58,3 +51,9 @@ pointer entry = if is_accessed entry || is_dirty entry || is_users entry then Br
 
 unfoldable pub kind_of : ℕ → Kind
 kind_of entry = if is_broken entry then Broken else if is_pointer entry then pointer entry else Leaf
+
+-- the page number that a pointer names
+abbrev pub NamesPage : Kind → Type 0
+NamesPage Broken = Unit {0}
+NamesPage (Pointer page) = page < 2 ^ 44
+NamesPage Leaf = Unit {0}

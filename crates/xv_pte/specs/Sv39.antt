@@ -2,23 +2,15 @@
 -- A reader gives the little-endian word of 8 bytes at a guest physical address, or none where there is
 -- no memory.
 use Rattle.std.specs.Prelude.{ℕ, zero, suc, ◌+◌, ◌-◌, ◌*◌, ◌/◌, ◌%◌, ◌^◌, ◌==◌, Bool, true, false, not, ◌&&◌, ◌||◌, if◌then◌else◌, List, [], ◌∷◌, Option, Some, None}
-use Rattle.xv_pte.specs.Entry.{Kind, Broken, Pointer, Leaf, kind_of, page_number, is_readable, is_writable, is_executable, is_users, is_accessed, is_dirty}
+use Rattle.xv_pte.specs.declared.access.Kind3.{Kind3}
+use Rattle.xv_pte.specs.declared.access.Kind3.TheVariants.{Fetch, Load, Store}
+use Rattle.xv_pte.specs.declared.access.View.{View}
+use Rattle.xv_pte.specs.declared.entry.Kind.{Kind}
+use Rattle.xv_pte.specs.declared.entry.Kind.TheVariants.{Broken, Pointer, Leaf}
+use Rattle.xv_pte.specs.Entry.{kind_of, page_number, is_readable, is_writable, is_executable, is_users, is_accessed, is_dirty}
 
 abbrev pub Reader : Type 0
 Reader = ℕ → Option ℕ
-
--- what memory is asked for. LR is a load; SC and an AMO are stores
-pub data Access : Type 0 where
-  Fetch : Access
-  Load : Access
-  Store : Access
-
--- what of a hart decides on its accesses: satp, whether the mode is U, and SUM and MXR of sstatus
-pub record View : Type 0 where
-  pub satp : ℕ
-  pub user : Bool
-  pub sum : Bool
-  pub mxr : Bool
 
 pub data Verdict : Type 0 where
   -- the guest physical address
@@ -63,7 +55,7 @@ walked read va (suc level) page =
 -- ---- permission
 
 -- what an access in U (true) or S needs of a leaf (4.3.1, 4.4.1)
-abbrev pub is_permitted : Access → Bool → View → ℕ → Bool
+abbrev pub is_permitted : Kind3 → Bool → View → ℕ → Bool
 is_permitted Fetch true v entry = is_executable entry && is_users entry
 is_permitted Fetch false v entry = is_executable entry && not (is_users entry)
 is_permitted Load true v entry = (is_readable entry || (v.mxr && is_executable entry)) && is_users entry
@@ -72,7 +64,7 @@ is_permitted Store true v entry = is_writable entry && is_users entry
 is_permitted Store false v entry = is_writable entry && (not (is_users entry) || v.sum)
 
 -- the bits that the hart would set, and doesn't
-abbrev pub is_marked : Access → ℕ → Bool
+abbrev pub is_marked : Kind3 → ℕ → Bool
 is_marked Fetch entry = is_accessed entry
 is_marked Load entry = is_accessed entry
 is_marked Store entry = is_accessed entry && is_dirty entry
@@ -87,7 +79,7 @@ is_aligned level entry = page_number entry % 2 ^ (9 * level) == 0
 abbrev pub leaf_address : ℕ → ℕ → ℕ → ℕ
 leaf_address level entry va = page_number entry * 4096 + va % 2 ^ page_bits level
 
-abbrev pub judged : View → ℕ → Access → Walked → Verdict
+abbrev pub judged : View → ℕ → Kind3 → Walked → Verdict
 judged v va access Fault = PageFault
 judged v va access (Absent gpa) = NoEntry gpa
 judged v va access (Found level entry) =
@@ -106,7 +98,7 @@ root_page v = v.satp % 2 ^ 44
 abbrev pub is_canonical : ℕ → Bool
 is_canonical va = va / 2 ^ 38 == 0 || va / 2 ^ 38 == 2 ^ 26 - 1
 
-unfoldable pub verdict : Reader → View → ℕ → Access → Verdict
+unfoldable pub verdict : Reader → View → ℕ → Kind3 → Verdict
 verdict read v va access =
     if is_bare v then Address va
     else if is_canonical va then judged v va access (walked read va 3 (root_page v))

@@ -4,3 +4,15 @@
 //! this project's profile: A and D are never set by the hart, so a leaf that lacks them is a page
 //! fault; and a pointer whose reserved bits A, D or U are set is one too.
 #![tactic(auto)]
+
+mod access;
+mod entry;
+
+pub use access::{Kind3, View};
+pub use entry::{
+    Kind, is_accessed, is_dirty, is_executable, is_readable, is_users, is_writable, kind_of,
+    page_number,
+};
+
+#[cfg(test)]
+mod tests;

@@ -10,8 +10,9 @@ use Rattle.xv_isa.specs.Results.{result_of}
 use Rattle.xv_csr.specs.declared.SCsrs.{SCsrs}
 use Rattle.xv_csr.specs.Pending.{chosen_interrupt}
 use Rattle.xv_csr.specs.Table.{csr_read}
-use Rattle.xv_pte.specs.Sv39 as sv39
-use Rattle.xv_pte.specs.Sv39.{Access, Verdict, Address, PageFault, NoEntry, Reader, verdict, asked}
+use Rattle.xv_pte.specs.declared.access.Kind3.TheVariants as kinds
+use Rattle.xv_pte.specs.declared.access.Kind3.{Kind3}
+use Rattle.xv_pte.specs.Sv39.{Verdict, Address, PageFault, NoEntry, Reader, verdict, asked}
 use Rattle.xv_pte.proofs.ReadersAgree.{Agree, verdict_same}
 use Rattle.xv_step.specs.Bus.{Bus, Spot, reader}
 use Rattle.xv_step.specs.State.{Held, State, set, at_pc, view, trapped}
@@ -82,28 +83,28 @@ module _ {MA PA MB PB : Type 0} (a : Bus MA PA) (b : Bus MB PB) (seen_memory : M
   agree_all read other all [] = tt {0}
   agree_all read other all (gpa ∷ gpas) = (all gpa, agree_all read other all gpas)
 
-  usable_same : (access : Access) (found : Option (Spot PB)) → memory.usable_spot access (option_map seen_spot found) ≡ option_map seen_spot (memory.usable_spot access found)
-  usable_same sv39.Fetch found = refl
-  usable_same sv39.Load found = refl
-  usable_same sv39.Store None = refl
-  usable_same sv39.Store (Some spot) = by_writable spot.writable
+  usable_same : (access : Kind3) (found : Option (Spot PB)) → memory.usable_spot access (option_map seen_spot found) ≡ option_map seen_spot (memory.usable_spot access found)
+  usable_same kinds.Fetch found = refl
+  usable_same kinds.Load found = refl
+  usable_same kinds.Store None = refl
+  usable_same kinds.Store (Some spot) = by_writable spot.writable
     where
       by_writable : (writable : Bool) → cond writable (Some (seen_spot spot)) None ≡ option_map seen_spot (cond writable (Some spot) None)
       by_writable true = refl
       by_writable false = refl
 
   -- a spot that is usable was found
-  usable_found : (access : Access) (found : Option (Spot PB)) (spot : Spot PB) → memory.usable_spot access found ≡ Some spot → found ≡ Some spot
-  usable_found sv39.Fetch found spot e = e
-  usable_found sv39.Load found spot e = e
-  usable_found sv39.Store None spot e = e
-  usable_found sv39.Store (Some one) spot e = ap Some (cond_some one.writable one spot e).1
+  usable_found : (access : Kind3) (found : Option (Spot PB)) (spot : Spot PB) → memory.usable_spot access found ≡ Some spot → found ≡ Some spot
+  usable_found kinds.Fetch found spot e = e
+  usable_found kinds.Load found spot e = e
+  usable_found kinds.Store None spot e = e
+  usable_found kinds.Store (Some one) spot e = ap Some (cond_some one.writable one spot e).1
 
   module _ (s : State MB PB) (is_good : IsGood s) where
     pub trap_is_one : (cause tval : ℕ) → IsOne (Went (trapped cause tval (seen s))) (Went (trapped cause tval s))
     trap_is_one cause tval = record { seen = refl; good = record { memory = is_good.memory; held = is_good.held } }
 
-    module _ (access : Access) (width va : ℕ) (lacks : ℕ → Ask) (done_a : PA → Outcome MA PA) (done_b : PB → Outcome MB PB) (done : (place : PB) → Stands width place → IsOne (done_a (seen_place place)) (done_b place)) where
+    module _ (access : Kind3) (width va : ℕ) (lacks : ℕ → Ask) (done_a : PA → Outcome MA PA) (done_b : PB → Outcome MB PB) (done : (place : PB) → Stands width place → IsOne (done_a (seen_place place)) (done_b place)) where
       spot_is_one : (gpa : ℕ) (usable : Option (Spot PB)) → ((spot : Spot PB) → usable ≡ Some spot → Stands width spot.place)
           → IsOne (memory.at_spot a (seen s) access width va lacks done_a gpa (option_map seen_spot usable)) (memory.at_spot b s access width va lacks done_b gpa usable)
       spot_is_one gpa None stands = record { seen = refl; good = tt {0} }
@@ -248,20 +249,20 @@ module _ {MA PA MB PB : Type 0} (a : Bus MA PA) (b : Bus MB PB) (seen_memory : M
 
       plain_is_one : (access : effects.Access) → IsOne (perform.plain a inputs word i (seen s) access) (perform.plain b inputs word i s access)
       plain_is_one (effects.Load width signed va rd) =
-          accessed_is_one sv39.Load width va (Plain (effects.Load width signed va rd) va) (perform.loaded a inputs word i (seen s) width signed rd) (perform.loaded b inputs word i s width signed rd) (loaded_is_one width signed rd)
+          accessed_is_one kinds.Load width va (Plain (effects.Load width signed va rd) va) (perform.loaded a inputs word i (seen s) width signed rd) (perform.loaded b inputs word i s width signed rd) (loaded_is_one width signed rd)
       plain_is_one (effects.Store width va value) =
-          accessed_is_one sv39.Store width va (Plain (effects.Store width va value) va) (perform.stored a inputs word i (seen s) width value) (perform.stored b inputs word i s width value) (stored_is_one width value)
+          accessed_is_one kinds.Store width va (Plain (effects.Store width va value) va) (perform.stored a inputs word i (seen s) width value) (perform.stored b inputs word i s width value) (stored_is_one width value)
 
       pub performed_is_one : (action : effects.Action) → IsOne (perform.performed a inputs word i (seen s) action) (perform.performed b inputs word i s action)
       performed_is_one (effects.Set rd value) = register_is_one rd value
       performed_is_one (effects.Jump target rd link) = jumped_is_one target rd link
       performed_is_one (effects.Plain access) = plain_is_one access
       performed_is_one (effects.LoadReserved width va rd) =
-          accessed_is_one sv39.Load width va (Target sv39.Load va) (perform.reserved a inputs word i (seen s) width rd) (perform.reserved b inputs word i s width rd) (reserved_is_one width rd)
+          accessed_is_one kinds.Load width va (Target kinds.Load va) (perform.reserved a inputs word i (seen s) width rd) (perform.reserved b inputs word i s width rd) (reserved_is_one width rd)
       performed_is_one (effects.StoreConditional width va value rd) =
-          accessed_is_one sv39.Store width va (Target sv39.Store va) (perform.conditional a inputs word i (seen s) width value rd) (perform.conditional b inputs word i s width value rd) (conditional_is_one width value rd)
+          accessed_is_one kinds.Store width va (Target kinds.Store va) (perform.conditional a inputs word i (seen s) width value rd) (perform.conditional b inputs word i s width value rd) (conditional_is_one width value rd)
       performed_is_one (effects.Modify op width va value rd) =
-          accessed_is_one sv39.Store width va (Target sv39.Store va) (perform.modified a inputs word i (seen s) op width value rd) (perform.modified b inputs word i s op width value rd) (modified_is_one op width value rd)
+          accessed_is_one kinds.Store width va (Target kinds.Store va) (perform.modified a inputs word i (seen s) op width value rd) (perform.modified b inputs word i s op width value rd) (modified_is_one op width value rd)
       performed_is_one (effects.AccessCsr number change rd) = csr_changed_is_one number change rd (csr_read s.csrs number s.user inputs.lines inputs.time)
       performed_is_one effects.FenceTranslations = in_supervisor_is_one _ _ (went s is_good)
       performed_is_one effects.Continue = went s is_good
@@ -284,7 +285,7 @@ module _ {MA PA MB PB : Type 0} (a : Bus MA PA) (b : Bus MB PB) (seen_memory : M
           (executed_is_one (b.get s.memory step.fetch_width place) (decode_of (b.get s.memory step.fetch_width place)))
 
       interrupted_is_one : (cause : Option ℕ) → IsOne (step.interrupted a inputs (seen s) cause) (step.interrupted b inputs s cause)
-      interrupted_is_one None = translated_is_one sv39.Fetch step.fetch_width s.pc (Target sv39.Fetch s.pc) (step.at_word a inputs (seen s)) (step.at_word b inputs s) at_word_is_one
+      interrupted_is_one None = translated_is_one kinds.Fetch step.fetch_width s.pc (Target kinds.Fetch s.pc) (step.at_word a inputs (seen s)) (step.at_word b inputs s) at_word_is_one
       interrupted_is_one (Some cause) = trap_is_one cause 0
 
       -- the step of one bus is that of the other, and it leaves what is good good

@@ -17,6 +17,8 @@ use Rattle.xv_step.specs.State.{State, set, trapped}
 use Rattle.xv_step.specs.Outcome.{Ask, Entry, Target, Plain, Call, Wait, Outcome, Went, Left, access_fault}
 use Rattle.xv_step.specs.Perform.{Inputs}
 use Rattle.xv_step.specs.Step.{step}
+use Rattle.xv_pte.specs.declared.access.Kind3.TheVariants as kinds
+use Rattle.xv_pte.specs.declared.access.Kind3.{Kind3}
 use Rattle.xv_pte.specs.Sv39 as sv39
 
 -- ---- 64 bytes of memory from 0x80000000 on
@@ -49,9 +51,9 @@ inputs = record { lines = record { timer = false; external = false }; time = 7 }
 
 -- ---- a machine by itself
 
-plain_kind : effects.Access → sv39.Access
-plain_kind (effects.Load width signed va rd) = sv39.Load
-plain_kind (effects.Store width va value) = sv39.Store
+plain_kind : effects.Access → Kind3
+plain_kind (effects.Load width signed va rd) = kinds.Load
+plain_kind (effects.Store width va value) = kinds.Store
 
 answer : State (List ℕ) ℕ → Ask → State (List ℕ) ℕ
 answer s (Entry access va gpa) = trapped (access_fault access) va s

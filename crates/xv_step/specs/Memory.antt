@@ -1,7 +1,8 @@
 -- An access to memory: its alignment, its translation, its place.
 use Rattle.std.specs.Prelude.{ℕ, ◌%◌, ◌==◌, if◌then◌else◌, Option, Some, None}
-use Rattle.xv_pte.specs.Sv39 as sv39
-use Rattle.xv_pte.specs.Sv39.{Access, Verdict, Address, PageFault, NoEntry, verdict}
+use Rattle.xv_pte.specs.declared.access.Kind3.TheVariants as kinds
+use Rattle.xv_pte.specs.declared.access.Kind3.{Kind3}
+use Rattle.xv_pte.specs.Sv39.{Verdict, Address, PageFault, NoEntry, verdict}
 use Rattle.xv_step.specs.Bus.{Bus, Spot, reader}
 use Rattle.xv_step.specs.State.{State, trapped, view}
 use Rattle.xv_step.specs.Outcome.{Ask, Entry, Outcome, Went, Left, misaligned, page_fault}
@@ -11,12 +12,12 @@ abbrev pub writable_spot : {P : Type 0} → Option (Spot P) → Option (Spot P)
 writable_spot None = None
 writable_spot (Some spot) = if spot.writable then Some spot else None
 
-abbrev pub usable_spot : {P : Type 0} → Access → Option (Spot P) → Option (Spot P)
-usable_spot sv39.Fetch spot = spot
-usable_spot sv39.Load spot = spot
-usable_spot sv39.Store spot = writable_spot spot
+abbrev pub usable_spot : {P : Type 0} → Kind3 → Option (Spot P) → Option (Spot P)
+usable_spot kinds.Fetch spot = spot
+usable_spot kinds.Load spot = spot
+usable_spot kinds.Store spot = writable_spot spot
 
-module _ {M P : Type 0} (bus : Bus M P) (s : State M P) (access : Access) (width va : ℕ) (lacks : ℕ → Ask) (done : P → Outcome M P) where
+module _ {M P : Type 0} (bus : Bus M P) (s : State M P) (access : Kind3) (width va : ℕ) (lacks : ℕ → Ask) (done : P → Outcome M P) where
   -- at the guest physical address: what is done at the place, or the ask where there is none
   abbrev pub at_spot : ℕ → Option (Spot P) → Outcome M P
   at_spot gpa None = Left (lacks gpa)

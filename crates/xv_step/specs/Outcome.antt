@@ -1,15 +1,15 @@
 -- What a step comes to: a state, or an ask, which leaves the state as it is.
 use Rattle.std.specs.Prelude.{ℕ}
 use Rattle.xv_isa.specs.Effects as effects
-use Rattle.xv_pte.specs.Sv39 as sv39
-use Rattle.xv_pte.specs.Sv39.{Access}
+use Rattle.xv_pte.specs.declared.access.Kind3.TheVariants as kinds
+use Rattle.xv_pte.specs.declared.access.Kind3.{Kind3}
 use Rattle.xv_step.specs.State.{State}
 
 pub data Ask : Type 0 where
   -- an entry of a page table, read for an access at a virtual address, has no place
-  Entry : (access : Access) → (va gpa : ℕ) → Ask
+  Entry : (access : Kind3) → (va gpa : ℕ) → Ask
   -- what is fetched, reserved, stored conditionally or modified has no place, or may not be written
-  Target : (access : Access) → (va gpa : ℕ) → Ask
+  Target : (access : Kind3) → (va gpa : ℕ) → Ask
   -- what is loaded or stored has no place, or may not be written
   Plain : (access : effects.Access) → (va gpa : ℕ) → Ask
   -- ECALL in S
@@ -35,17 +35,17 @@ abbrev pub call_from_user : ℕ
 call_from_user = 8
 
 -- of each kind of access: misaligned, access fault, page fault
-abbrev pub misaligned : Access → ℕ
-misaligned sv39.Fetch = misaligned_fetch
-misaligned sv39.Load = 4
-misaligned sv39.Store = 6
+abbrev pub misaligned : Kind3 → ℕ
+misaligned kinds.Fetch = misaligned_fetch
+misaligned kinds.Load = 4
+misaligned kinds.Store = 6
 
-abbrev pub access_fault : Access → ℕ
-access_fault sv39.Fetch = 1
-access_fault sv39.Load = 5
-access_fault sv39.Store = 7
+abbrev pub access_fault : Kind3 → ℕ
+access_fault kinds.Fetch = 1
+access_fault kinds.Load = 5
+access_fault kinds.Store = 7
 
-abbrev pub page_fault : Access → ℕ
-page_fault sv39.Fetch = 12
-page_fault sv39.Load = 13
-page_fault sv39.Store = 15
+abbrev pub page_fault : Kind3 → ℕ
+page_fault kinds.Fetch = 12
+page_fault kinds.Load = 13
+page_fault kinds.Store = 15

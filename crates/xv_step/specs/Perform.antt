@@ -10,7 +10,7 @@ use Rattle.xv_csr.specs.declared.SCsrs.{SCsrs}
 use Rattle.xv_csr.specs.declared.Lines.{Lines}
 use Rattle.xv_csr.specs.Table.{csr_read, csr_written}
 use Rattle.xv_csr.specs.Trap.{returned, returns_to_user}
-use Rattle.xv_pte.specs.Sv39 as sv39
+use Rattle.xv_pte.specs.declared.access.Kind3.TheVariants as kinds
 use Rattle.xv_step.specs.Bus.{Bus}
 use Rattle.xv_step.specs.State.{Held, State, set, at_pc, trapped}
 use Rattle.xv_step.specs.Outcome.{Target, Plain, Call, Wait, Outcome, Went, Left, misaligned_fetch, illegal_instruction, breakpoint, call_from_user}
@@ -66,9 +66,9 @@ module _ {M P : Type 0} (bus : Bus M P) (inputs : Inputs) (word : ℕ) (i : Insn
 
   abbrev pub plain : effects.Access → Outcome M P
   plain (effects.Load width signed va rd) =
-      accessed bus s sv39.Load width va (Plain (effects.Load width signed va rd) va) (loaded width signed rd)
+      accessed bus s kinds.Load width va (Plain (effects.Load width signed va rd) va) (loaded width signed rd)
   plain (effects.Store width va value) =
-      accessed bus s sv39.Store width va (Plain (effects.Store width va value) va) (stored width value)
+      accessed bus s kinds.Store width va (Plain (effects.Store width va value) va) (stored width value)
 
   abbrev pub reserved : ℕ → ℕ → P → Outcome M P
   reserved width rd place =
@@ -117,11 +117,11 @@ module _ {M P : Type 0} (bus : Bus M P) (inputs : Inputs) (word : ℕ) (i : Insn
   performed (effects.Jump target rd link) = jumped target rd link
   performed (effects.Plain access) = plain access
   performed (effects.LoadReserved width va rd) =
-      accessed bus s sv39.Load width va (Target sv39.Load va) (reserved width rd)
+      accessed bus s kinds.Load width va (Target kinds.Load va) (reserved width rd)
   performed (effects.StoreConditional width va value rd) =
-      accessed bus s sv39.Store width va (Target sv39.Store va) (conditional width value rd)
+      accessed bus s kinds.Store width va (Target kinds.Store va) (conditional width value rd)
   performed (effects.Modify op width va value rd) =
-      accessed bus s sv39.Store width va (Target sv39.Store va) (modified op width value rd)
+      accessed bus s kinds.Store width va (Target kinds.Store va) (modified op width value rd)
   performed (effects.AccessCsr number change rd) = csr number change rd
   performed effects.FenceTranslations = in_supervisor (goes_on s)
   performed effects.Continue = goes_on s

@@ -3,7 +3,7 @@ use Rattle.std.specs.Prelude.{ℕ, ◌==◌, Bool, false, if◌then◌else◌, L
 use Rattle.xv_csr.specs.declared.SCsrs.{SCsrs}
 use Rattle.xv_csr.specs.Bits.{has_bit}
 use Rattle.xv_csr.specs.Trap.{entered, handler}
-use Rattle.xv_pte.specs.Sv39.{View}
+use Rattle.xv_pte.specs.declared.access.View.{View}
 
 -- a reservation: a place and a number of bytes
 pub record Held (Place : Type 0) : Type 0 where

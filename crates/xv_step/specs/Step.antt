@@ -4,7 +4,7 @@ use Rattle.xv_isa.specs.declared.instruction.Insn.{Insn}
 use Rattle.xv_isa.specs.Effects.{effect_of}
 use Rattle.xv_isa.specs.Operands.{decode_of}
 use Rattle.xv_csr.specs.Pending.{chosen_interrupt}
-use Rattle.xv_pte.specs.Sv39 as sv39
+use Rattle.xv_pte.specs.declared.access.Kind3.TheVariants as kinds
 use Rattle.xv_step.specs.Bus.{Bus}
 use Rattle.xv_step.specs.State.{State, trapped}
 use Rattle.xv_step.specs.Outcome.{Target, Outcome, Went, illegal_instruction}
@@ -28,7 +28,7 @@ module _ {M P : Type 0} (bus : Bus M P) (inputs : Inputs) (s : State M P) where
 
   -- the pc is a multiple of 4
   abbrev pub fetched : Outcome M P
-  fetched = translated bus s sv39.Fetch fetch_width s.pc (Target sv39.Fetch s.pc) at_word
+  fetched = translated bus s kinds.Fetch fetch_width s.pc (Target kinds.Fetch s.pc) at_word
 
   -- an interrupt is the whole step
   abbrev pub interrupted : Option ℕ → Outcome M P

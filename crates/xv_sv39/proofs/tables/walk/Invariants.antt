@@ -1,0 +1,13 @@
+use Rattle.std.proofs.Common.{◌≡◌, ◌<◌, ◌^◌}
+use Rattle.xv_sv39.proofs.WalkLemmas.{IsOnTheWay}
+use Rattle.xv_sv39.proofs.tables.walk.Given as goal
+
+abbrev pub invariant-loop-level : goal.invariant-loop-level
+invariant-loop-level g l = record {
+  way : IsOnTheWay (g.R.Words.table l.fn.reader) l.va l.root l.level l.page (g.R.Words.asked l.reader);
+  table : g.R.Words.table l.reader ≡ g.R.Words.table l.fn.reader;
+  page : l.page < 2 ^ 44;
+}
+
+abbrev pub decreases-loop-level : goal.decreases-loop-level
+decreases-loop-level g l = l.level

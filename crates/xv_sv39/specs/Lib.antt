@@ -1,0 +1,2 @@
+pub mod Translate
+pub use Rattle.xv_pte.specs.Sv39

@@ -1,0 +1,19 @@
+//! Where the entries of page tables are read.
+ghost use Rattle.std.specs.Prelude.{◌≡◌, ◌<◌, ◌++◌, ◌∷◌, [], ℕ, List, length};
+ghost use Rattle.xv_pte.specs.Sv39.{Reader};
+
+/// A reader of the little-endian words of 8 bytes at guest physical addresses.
+pub trait Words {
+    /// The word that each address has, or none. No call changes it.
+    ghost table: { Self → Reader };
+
+    /// The addresses asked so far, in order.
+    ghost asked: { Self → List ℕ };
+
+    /// The word at an address.
+    fn word(&mut self, gpa: u64) -> Option<u64>
+        requires room { length (asked self.old) < 3 }
+        ensures word { result ≡ table self.old gpa }
+        ensures table { table self.new ≡ table self.old }
+        ensures asked { asked self.new ≡ asked self.old ++ gpa ∷ [] };
+}
