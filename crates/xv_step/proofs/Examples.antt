@@ -1,7 +1,10 @@
 -- Worked rows of the definitions, computed by the checker: short programs over 64 bytes of memory, in which
 -- an ask is answered as a machine without devices and without calls would.
 use Rattle.std.proofs.Common.{◌≡◌, ℕ, zero, suc, ◌+◌, ◌-◌, ◌*◌, ◌/◌, ◌%◌, ◌^◌, ◌==◌, ◌++◌, Bool, true, false, ◌&&◌, if◌then◌else◌, List, [], ◌∷◌, map, length, Some, None, refl, nat_le}
-use Rattle.std.specs.Prelude.{replicate, slice_index, slice_set}
+use Rattle.std.specs.Prelude.{Option, ℤ, pos, negsuc, option_map, replicate, slice_index, slice_set}
+use Rattle.xv_isa.specs.declared.instruction.Insn.{Insn}
+use Rattle.xv_isa.specs.declared.rows.Op.{Op}
+use Rattle.xv_isa.specs.declared.rows.Op.TheVariants.{Add, Addi, Auipc, Csrrw, Jal, Ld, LrD, Lui, Sb, Sd, Slli, Sw}
 use Rattle.xv_isa.specs.Effects as effects
 use Rattle.xv_isa.specs.Effects.{effect_of}
 use Rattle.xv_isa.specs.Operands.{decode_of}
@@ -199,3 +202,50 @@ the_rows = refl
 wait : step bus inputs (start (0x10500073 ∷ [])) ≡ Left Wait
 unfolding start memory_of bytes_of number_at bus inputs base step decode_of row_of rows form_of operation_at effect_of chosen_interrupt pending sip_of reset_csrs sv39.verdict
 wait = refl
+
+-- ---- words as they read: the operation, rd, rs1, rs2 and the immediate
+
+record Reading : Type 0 where
+  op : Op
+  rd : ℕ
+  rs1 : ℕ
+  rs2 : ℕ
+  imm : ℤ
+
+reading_of : Insn → Reading
+reading_of i = record { op = operation_at i.row; rd = i.rd; rs1 = i.rs1; rs2 = i.rs2; imm = i.imm }
+
+reads : Op → ℕ → ℕ → ℕ → ℤ → Option Reading
+reads op rd rs1 rs2 imm = Some (record { op = op; rd = rd; rs1 = rs1; rs2 = rs2; imm = imm })
+
+words : List (ℕ × Option Reading)
+words =
+    (0x00000297, reads Auipc 5 0 0 (pos 0))
+    ∷ (0x00003023, reads Sd 0 0 0 (pos 0))
+    ∷ (0x000053b7, reads Lui 7 0 0 (pos 0x5000))
+    ∷ (0x00033383, reads Ld 7 6 0 (pos 0))
+    ∷ (0x000803b7, reads Lui 7 0 0 (pos 0x80000))
+    ∷ (0x00100313, reads Addi 6 0 0 (pos 1))
+    ∷ (0x00100337, reads Lui 6 0 0 (pos 0x100000))
+    ∷ (0x00128293, reads Addi 5 5 0 (pos 1))
+    ∷ (0x00138393, reads Addi 7 7 0 (pos 1))
+    ∷ (0x00730023, reads Sb 0 6 7 (pos 0))
+    ∷ (0x00730333, reads Add 6 6 7 (pos 0))
+    ∷ (0x00732023, reads Sw 0 6 7 (pos 0))
+    ∷ (0x01028293, reads Addi 5 5 0 (pos 0x10))
+    ∷ (0x01828293, reads Addi 5 5 0 (pos 0x18))
+    ∷ (0x02828293, reads Addi 5 5 0 (pos 0x28))
+    ∷ (0x02931313, reads Slli 6 6 0 (pos 0x29))
+    ∷ (0x03f31313, reads Slli 6 6 0 (pos 0x3f))
+    ∷ (0x04800393, reads Addi 7 0 0 (pos 0x48))
+    ∷ (0x10000337, reads Lui 6 0 0 (pos 0x10000000))
+    ∷ (0x100033af, reads LrD 7 0 0 (pos 0))
+    ∷ (0x10529073, reads Csrrw 0 5 0 (pos 0x105))
+    ∷ (0x18031073, reads Csrrw 0 6 0 (pos 0x180))
+    ∷ (0x55538393, reads Addi 7 7 0 (pos 0x555))
+    ∷ (0xffdff06f, reads Jal 0 0 0 (negsuc 3))
+    ∷ []
+
+words_read : map (λ w. option_map reading_of (decode_of w.0)) words ≡ map (λ w. w.1) words
+unfolding words reads reading_of decode_of row_of rows form_of operation_at
+words_read = refl
