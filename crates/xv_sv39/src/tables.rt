@@ -24,6 +24,7 @@ pub fn walk<R: Words>(reader: &mut R, root: u64, va: u64) -> Result<Leaf, WalkFa
     ensures leaf { IsLeaf result }
     ensures asked { R.asked reader.new ≡ sv39.asked_by_walk (R.table reader.old) va 3 root }
     ensures table { R.table reader.new ≡ R.table reader.old }
+    ensures rule { R.rule reader.old → R.rule reader.new }
 {
     let mut page = root;
     let mut level = 3;

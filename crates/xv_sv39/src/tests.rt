@@ -1,5 +1,5 @@
 //! A walk over three entries, and what each access makes of its leaf.
-ghost use Rattle.std.specs.Prelude.{◌≡◌, ◌<◌, ◌==◌, ◌++◌, ◌/◌, ◌^◌, ◌⊎◌, ◌∷◌, [], Some, None, take, length, slice_index, if◌then◌else◌};
+ghost use Rattle.std.specs.Prelude.{◌≡◌, ◌<◌, ◌≤◌, ◌==◌, ◌++◌, ◌/◌, ◌^◌, ◌⊎◌, ◌∷◌, [], Some, None, take, length, slice_index, if◌then◌else◌};
 
 use crate::{WalkFault, Words, translate};
 use xv_pte::Kind3;
@@ -23,10 +23,13 @@ impl Words for Three {
 
     ghost asked = { λ s. take s.count s.asked };
 
+    ghost rule = { λ s. s.count ≤ 3 };
+
     fn word(&mut self, gpa: u64) -> Option<u64>
         requires room { length (take self.old.count self.old.asked) < 3 }
         ensures word { result ≡ (if gpa == 0x8000_0008 then Some (slice_index self.old.words 0) else if gpa == 0x8000_1008 then Some (slice_index self.old.words 1) else if gpa == 0x8000_2018 then Some (slice_index self.old.words 2) else None) }
         ensures words { self.new.words ≡ self.old.words }
+        ensures rule { self.old.count ≤ 3 → self.new.count ≤ 3 }
         ensures asked { take self.new.count self.new.asked ≡ take self.old.count self.old.asked ++ gpa ∷ [] }
     {
         self.asked[self.count] = gpa;

@@ -27,6 +27,7 @@ pub fn translate<R: Words>(
     ensures verdict { verdict_of result ≡ sv39.verdict (R.table reader.old) (record { satp = satp; user = user; sum = sum; mxr = mxr }) va access }
     ensures asked { R.asked reader.new ≡ sv39.asked (R.table reader.old) (record { satp = satp; user = user; sum = sum; mxr = mxr }) va }
     ensures table { R.table reader.new ≡ R.table reader.old }
+    ensures rule { R.rule reader.old → R.rule reader.new }
 {
     if satp >> 60 == 0 {
         return Ok(va);

@@ -10,10 +10,14 @@ pub trait Words {
     /// The addresses asked so far, in order.
     ghost asked: { Self → List ℕ };
 
+    /// A rule of the reader that each call keeps.
+    ghost rule: { Self → Type 0 };
+
     /// The word at an address.
     fn word(&mut self, gpa: u64) -> Option<u64>
         requires room { length (asked self.old) < 3 }
         ensures word { result ≡ table self.old gpa }
         ensures table { table self.new ≡ table self.old }
-        ensures asked { asked self.new ≡ asked self.old ++ gpa ∷ [] };
+        ensures asked { asked self.new ≡ asked self.old ++ gpa ∷ [] }
+        ensures rule { rule self.old → rule self.new };
 }

@@ -8,6 +8,7 @@ loop-level-init g c = record {
   way = way_starts (g.R.Words.table c.args.reader.now) c.args.va c.args.root (g.R.Words.asked c.args.reader.now) c.requires.empty;
   table = refl;
   page = c.requires.root;
+  rule = λ kept. kept;
 }
 
 pub entry_address-gpa-requires-clause-page : goal.entry_address-gpa-requires-clause-page
@@ -64,6 +65,7 @@ loop-level-preserved g c = record {
       (way_goes_on (g.R.Words.table c.args.reader.now) c.args.va c.args.root c.loop-level.level c.loop-level.page c.entry_address-gpa.result (g.R.Words.asked c.loop-level.reader) c.loop-level-test.true c.entry_address-gpa.ensures c.loop-level.invariant.way c.in-Some.entry c.in-Pointer.next (c.in-Some.ensures.word ∙ ap (λ t. t c.entry_address-gpa.result) c.loop-level.invariant.table) c.in-Pointer.ensures.kind);
   table = c.word.ensures.table ∙ c.loop-level.invariant.table;
   page = c.in-Pointer.ensures.page;
+  rule = λ kept. c.word.ensures.rule (c.loop-level.invariant.rule kept);
 }
 
 pub returns-clause-walked : goal.returns-clause-walked

@@ -7,6 +7,7 @@ invariant-loop-level g l = record {
   way : IsOnTheWay (g.R.Words.table l.fn.reader) l.va l.root l.level l.page (g.R.Words.asked l.reader);
   table : g.R.Words.table l.reader ≡ g.R.Words.table l.fn.reader;
   page : l.page < 2 ^ 44;
+  rule : g.R.Words.rule l.fn.reader → g.R.Words.rule l.reader;
 }
 
 abbrev pub decreases-loop-level : goal.decreases-loop-level
