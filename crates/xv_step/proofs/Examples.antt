@@ -22,9 +22,10 @@ use Rattle.xv_step.specs.Perform.{Inputs}
 use Rattle.xv_step.specs.Step.{step}
 use Rattle.xv_pte.specs.declared.access.Kind3.TheVariants as kinds
 use Rattle.xv_pte.specs.declared.access.Kind3.{Kind3}
+use Rattle.xv_pte.specs.Entry.{kind_of}
 use Rattle.xv_pte.specs.Sv39 as sv39
 
--- ---- 64 bytes of memory from 0x80000000 on
+-- ---- 64 bytes of memory from 0x80000000 on, of which the last 8 can't be written
 
 base : ℕ
 base = 0x8000_0000
@@ -43,7 +44,7 @@ stored_at memory at (b ∷ bs) = stored_at (slice_set memory at b) (at + 1) bs
 
 bus : Bus (List ℕ) ℕ
 bus = record {
-  find = λ width gpa. if nat_le base gpa && nat_le (gpa + width) (base + 64) then Some (record { place = gpa - base; writable = true }) else None;
+  find = λ width gpa. if nat_le base gpa && nat_le (gpa + width) (base + 64) then Some (record { place = gpa - base; writable = nat_le (gpa + width) (base + 56) }) else None;
   get = λ memory width at. number_at memory width at;
   put = λ memory width at value. stored_at memory at (bytes_of width value);
   same = λ a b. a == b;
@@ -94,6 +95,13 @@ in_user s = record s { user = true }
 with_csrs : SCsrs → State (List ℕ) ℕ → State (List ℕ) ℕ
 with_csrs csrs s = record s { csrs = csrs }
 
+-- Sv39 with the root table at the base: entry 2 maps 1 GiB at the base onto itself, entry 3 maps it as these
+-- flags say, and the entries from 8 on have no memory
+mapped : ℕ → ℕ → List ℕ → State (List ℕ) ℕ
+mapped status flags code =
+    with_csrs (record reset_csrs { satp = 8 * 2 ^ 60 + 0x80000; sstatus = reset_csrs.sstatus + status })
+    (start (code ++ 0x2000_00cf ∷ 0 ∷ (0x2000_0000 + flags) ∷ 0 ∷ []))
+
 -- ---- what is looked at
 
 -- scause, sepc, stval and the pc
@@ -141,6 +149,7 @@ table =
     -- a word that is no row, and then a fetch at 0
     ∷ (trap_of (ran 1 (0 ∷ [])), 2 ∷ base ∷ 0 ∷ 0 ∷ [])
     ∷ (trap_of (ran 2 (0 ∷ [])), 1 ∷ 0 ∷ 0 ∷ 0 ∷ [])
+    ∷ (trap_of (ran 1 (0xffff_ffff ∷ [])), 2 ∷ base ∷ 0xffff_ffff ∷ 0 ∷ [])
     -- LR.D, SD, SC.D: a store leaves the reservation
     ∷ (registers (7 ∷ []) (ran 5 (at_x5 (0x1002b32f ∷ 0x0052b023 ∷ 0x1852b3af ∷ []))), 0 ∷ [])
     ∷ (word (ran 5 (at_x5 (0x1002b32f ∷ 0x0052b023 ∷ 0x1852b3af ∷ []))), 0x8000_0020 ∷ [])
@@ -189,13 +198,35 @@ table =
     ∷ (trap_of (steps 1 (with_csrs (software (reset_csrs.sstatus + 2)) (start (0x00000013 ∷ [])))), (2 ^ 63 + 1) ∷ base ∷ 0 ∷ 0x8000_0024 ∷ [])
     ∷ (trap_of (steps 1 (with_csrs (software reset_csrs.sstatus) (start (0x00000013 ∷ [])))), 0 ∷ 0 ∷ 0 ∷ 0x8000_0004 ∷ [])
     ∷ (trap_of (steps 1 (in_user (with_csrs (software reset_csrs.sstatus) (start (0x00000013 ∷ []))))), (2 ^ 63 + 1) ∷ base ∷ 0 ∷ 0x8000_0024 ∷ [])
+    -- SD, SC.D and AMOADD.D where nothing may be written: x5 is the address of offset 56; LD reads there
+    ∷ (trap_of (ran 3 (0x00000297 ∷ 0x03828293 ∷ 0x0052b023 ∷ [])), 7 ∷ 0x8000_0008 ∷ 0x8000_0038 ∷ 0 ∷ [])
+    ∷ (trap_of (ran 3 (0x00000297 ∷ 0x03828293 ∷ 0x1852b3af ∷ [])), 7 ∷ 0x8000_0008 ∷ 0x8000_0038 ∷ 0 ∷ [])
+    ∷ (trap_of (ran 3 (0x00000297 ∷ 0x03828293 ∷ 0x0052b32f ∷ [])), 7 ∷ 0x8000_0008 ∷ 0x8000_0038 ∷ 0 ∷ [])
+    ∷ (trap_of (ran 3 (0x00000297 ∷ 0x03828293 ∷ 0x0002b303 ∷ [])), 0 ∷ 0 ∷ 0 ∷ 0x8000_000c ∷ [])
+    -- page faults: LD, SD and a fetch at 0xC0000000, whose entry is 0 but for its page
+    ∷ (trap_of (steps 3 (mapped 0 0 (at_entry 3 0x0002b303))), 13 ∷ 0x8000_0008 ∷ 0xc000_0000 ∷ 0 ∷ [])
+    ∷ (trap_of (steps 3 (mapped 0 0 (at_entry 3 0x0002b023))), 15 ∷ 0x8000_0008 ∷ 0xc000_0000 ∷ 0 ∷ [])
+    ∷ (trap_of (steps 4 (mapped 0 0 (at_entry 3 0x00028067))), 12 ∷ 0xc000_0000 ∷ 0xc000_0000 ∷ 0 ∷ [])
+    -- an entry without memory is an access fault of the access's kind
+    ∷ (trap_of (steps 3 (mapped 0 0 (at_entry 8 0x0002b303))), 5 ∷ 0x8000_0008 ∷ 2 ^ 33 ∷ 0 ∷ [])
+    ∷ (trap_of (steps 3 (mapped 0 0 (at_entry 8 0x0002b023))), 7 ∷ 0x8000_0008 ∷ 2 ^ 33 ∷ 0 ∷ [])
+    ∷ (trap_of (steps 4 (mapped 0 0 (at_entry 8 0x00028067))), 1 ∷ 2 ^ 33 ∷ 2 ^ 33 ∷ 0 ∷ [])
+    -- LW of a page of U without SUM (18) and with it, and of one to be executed alone without MXR (19) and with it
+    ∷ (trap_of (steps 3 (mapped 0 0xdf (at_entry 3 0x0002a303))), 13 ∷ 0x8000_0008 ∷ 0xc000_0000 ∷ 0 ∷ [])
+    ∷ (registers (6 ∷ []) (steps 3 (mapped (2 ^ 18) 0xdf (at_entry 3 0x0002a303))), 0x00300293 ∷ [])
+    ∷ (trap_of (steps 3 (mapped (2 ^ 18) 0x49 (at_entry 3 0x0002a303))), 13 ∷ 0x8000_0008 ∷ 0xc000_0000 ∷ 0 ∷ [])
+    ∷ (registers (6 ∷ []) (steps 3 (mapped (2 ^ 19) 0x49 (at_entry 3 0x0002a303))), 0x00300293 ∷ [])
     ∷ []
   where
+    -- x5 is the first address of an entry's GiB, the entry being below 16, and the next word uses it
+    at_entry : ℕ → ℕ → List ℕ
+    at_entry entry word = (0x00000293 + entry * 2 ^ 20) ∷ 0x01e29293 ∷ word ∷ 0x0000006f ∷ []
+
     software : ℕ → SCsrs
     software status = record reset_csrs { ssip = true; sie = 2; stvec = 0x8000_0021; sstatus = status }
 
 the_rows : map (λ r. r.0) table ≡ map (λ r. r.1) table
-unfolding start ran ran_in_user at_x5 ones table in_user with_csrs trap_of registers mode mode_of word steps memory_of bytes_of number_at stored_at bus inputs base answered answer plain_kind step decode_of row_of rows form_of operation_at effect_of chosen_interrupt pending sip_of csr_read csr_written register_of entered handler returned returns_to_user kept_stvec reset_csrs sv39.verdict
+unfolding start mapped sv39.walked kind_of ran ran_in_user at_x5 ones table in_user with_csrs trap_of registers mode mode_of word steps memory_of bytes_of number_at stored_at bus inputs base answered answer plain_kind step decode_of row_of rows form_of operation_at effect_of chosen_interrupt pending sip_of csr_read csr_written register_of entered handler returned returns_to_user kept_stvec reset_csrs sv39.verdict
 the_rows = refl
 
 -- WFI in S is left to who asks for the step
