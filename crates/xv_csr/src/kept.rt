@@ -16,8 +16,6 @@ const VECTORED: u64 = 1;
 
 const BARE: u64 = 0;
 
-const SV39: u64 = 8;
-
 #[tactic(auto, unfolding(crate::specs::Kept::kept_sstatus, bitflags::proofs::OnLiterals::bitflags_on_literals))]
 pub fn kept_sstatus(value: u64) -> u64
     ensures { result ≡ kept_sstatus value }
@@ -70,9 +68,5 @@ pub fn kept_satp(old: u64, value: u64) -> u64
     ensures { result ≡ kept_satp old value }
 {
     let mode = value >> 60;
-    if mode == BARE || mode == SV39 {
-        (mode << 60) + value % (1 << 44)
-    } else {
-        old
-    }
+    if mode == BARE { value % (1 << 44) } else { old }
 }

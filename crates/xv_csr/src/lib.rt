@@ -2,8 +2,8 @@
 //! section 4.1), and the counter `time` (Unprivileged ISA 20191213, chapter 10). The definitions of
 //! trap entry, trap return and the choice of an interrupt stand here too.
 //!
-//! What of the standard is this project's profile: the ASID of satp reads 0 and its MODE is Bare or
-//! Sv39; the A and D bits of table entries are never set by the hart; `cycle` and `instret` are
+//! What of the standard is this project's profile: the ASID of satp reads 0 and its MODE is Bare,
+//! since Sv39 isn't built; the A and D bits of table entries are never set by the hart; `cycle` and `instret` are
 //! refused, so `scounteren` keeps TM alone; `senvcfg` keeps FIOM alone.
 #![tactic(auto)]
 
