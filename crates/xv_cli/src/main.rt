@@ -7,8 +7,9 @@ mod fault;
 use fault::Fault;
 use std::process::ExitCode;
 use std::{env, io};
+use xv_hart::Machine;
 use xv_outside::{EmptyFiles, StdSink, StdSource};
-use xv_top::{Machine, boot};
+use xv_top::boot;
 
 /// The status for want of memory.
 const NO_MEMORY: u8 = 7;

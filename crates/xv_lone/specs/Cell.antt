@@ -1,6 +1,6 @@
 -- Which byte of a guest's memory an address names.
 use Rattle.std.specs.Prelude.{ℕ, suc, ◌+◌, ◌-◌, Bool, ◌&&◌, nat_le, if◌then◌else◌, List, [], ◌∷◌, get_or, Option, Some, None, slice_set}
-use Rattle.xv_mem.specs.Bytes.{word_at, put}
+use Rattle.xv_mem.specs.Bytes.{word_at, put, put_word}
 use Rattle.xv_lone.specs.Plan.{Region, Plan}
 
 -- a place in a guest's memory: the number of its region, from 0, and the offset in it
@@ -32,3 +32,7 @@ load_cell memory c n = word_at n (get_or memory c.region []) c.offset
 -- the memory with these bytes at a cell
 abbrev pub store_cell : Memory → Cell → List ℕ → Memory
 store_cell memory c piece = slice_set memory c.region (put (get_or memory c.region []) c.offset piece)
+
+-- the memory with the n low bytes of a number at a cell
+abbrev pub put_cell : Memory → Cell → ℕ → ℕ → Memory
+put_cell memory c n value = slice_set memory c.region (put_word n (get_or memory c.region []) c.offset value)

@@ -5,7 +5,7 @@ use Rattle.xv_lone.specs.declared.vcpu.GuestState.TheVariants.{Running}
 use Rattle.xv_lone.specs.Plan.{Plan}
 use Rattle.xv_lone.specs.Cell.{Cell, cell, store_cell}
 use Rattle.xv_lone.specs.Vcpu.{kicked_vcpu}
-use Rattle.xv_lone.specs.Machine.{Machine, new_machine}
+use Rattle.xv_lone.specs.Machine.{Machine, new_machine, guest_time}
 use Rattle.xv_lone.specs.Turn.{turn}
 
 pub data Entry : Type 0 where
@@ -40,7 +40,7 @@ abbrev pub changed : Plan → Entry → Machine → Machine
 changed plan (Born clock) m = new_machine plan clock
 changed plan (Load gpa bytes) m = loaded plan gpa bytes m
 changed plan Kick m = kicked m
-changed plan (Turn vcpu clock) m = turn plan vcpu m
+changed plan (Turn vcpu clock) m = turn plan vcpu (guest_time clock m) m
 
 -- before a guest is born there is none, and only its birth makes one
 abbrev pub after_entry : Plan → Option Machine → Entry → Option Machine

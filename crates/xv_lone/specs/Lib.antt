@@ -1,9 +1,9 @@
 pub mod Plan
 pub mod Cell
 pub mod Vcpu
-pub mod Rows
-pub mod Step
 pub mod Machine
+pub mod Step
+pub mod Ready
 pub mod Turn
 pub mod Journal
 pub use Rattle.xv_mem.specs.Bytes

@@ -1,5 +1,5 @@
 -- One VCPU by itself.
-use Rattle.std.specs.Prelude.{ℕ, ◌-◌, ◌^◌, ◌==◌, false, if◌then◌else◌, List, slice_set, replicate}
+use Rattle.std.specs.Prelude.{ℕ, ◌-◌, ◌^◌, false, slice_set, replicate}
 use Rattle.xv_csr.specs.Reset.{reset_csrs}
 use Rattle.xv_lone.specs.declared.vcpu.VcpuView.{VcpuView}
 use Rattle.xv_lone.specs.declared.vcpu.HartState.TheVariants.{Started, Stopped}
@@ -19,7 +19,3 @@ reset_vcpu start = record {
 -- a guest begins to run: the VCPU is started, with a0 and a1 0
 abbrev pub kicked_vcpu : VcpuView → VcpuView
 kicked_vcpu v = record v { x = slice_set (slice_set v.x 10 0) 11 0; hart = Started }
-
--- the registers with a value in register rd, but that x0 isn't written
-abbrev pub with_register : List ℕ → ℕ → ℕ → List ℕ
-with_register x rd value = if rd == 0 then x else slice_set x rd value

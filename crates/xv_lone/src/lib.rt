@@ -2,13 +2,11 @@
 //! other guest. The crate has definitions (in `specs/`) and the plain data that they speak of; no
 //! engine.
 //!
-//! The definitions follow the Unprivileged ISA 20191213 and the Privileged Architecture 20211203.
-//! So far three rows of the instruction table are built, ADDI, ADD and JAL, in mode S without
-//! translation.
+//! A VCPU's step is that of `xv_step`'s hart over the cells of the guest's memory; what that hart asks
+//! for is answered here at once. No device and no SBI call is built, so an access that memory doesn't
+//! serve is an access fault, and each call from S answers -2. Addresses aren't translated.
 #![tactic(auto)]
 
-mod action;
 mod vcpu;
 
-pub use action::Action;
 pub use vcpu::{GuestState, HartState, TurnEnd, VcpuView};

@@ -24,8 +24,10 @@ pub enum GuestState {
 pub enum TurnEnd {
     /// All its steps were made.
     Spent,
-    /// The next step isn't built.
-    Unbuilt,
+    /// The VCPU waits for an interrupt, or is suspended.
+    Waits,
+    /// The VCPU is stopped.
+    Stops,
 }
 
 /// The state of one VCPU.

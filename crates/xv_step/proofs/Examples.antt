@@ -5,7 +5,6 @@ use Rattle.std.specs.Prelude.{Option, ℤ, pos, negsuc, option_map, replicate, s
 use Rattle.xv_isa.specs.declared.instruction.Insn.{Insn}
 use Rattle.xv_isa.specs.declared.rows.Op.{Op}
 use Rattle.xv_isa.specs.declared.rows.Op.TheVariants.{Add, Addi, Auipc, Csrrw, Jal, Ld, LrD, Lui, Sb, Sd, Slli, Sw}
-use Rattle.xv_isa.specs.Effects as effects
 use Rattle.xv_isa.specs.Effects.{effect_of}
 use Rattle.xv_isa.specs.Operands.{decode_of}
 use Rattle.xv_isa.specs.Rows.{row_of, rows, form_of, operation_at}
@@ -17,11 +16,9 @@ use Rattle.xv_csr.specs.Trap.{entered, handler, returned, returns_to_user}
 use Rattle.xv_csr.specs.declared.SCsrs.{SCsrs}
 use Rattle.xv_step.specs.Bus.{Bus}
 use Rattle.xv_step.specs.State.{State, set, trapped}
-use Rattle.xv_step.specs.Outcome.{Ask, Entry, Target, Plain, Call, Wait, Outcome, Went, Left, access_fault}
+use Rattle.xv_step.specs.Outcome.{Ask, Entry, Target, Plain, Call, Wait, Outcome, Went, Left, access_kind, access_fault}
 use Rattle.xv_step.specs.Perform.{Inputs}
 use Rattle.xv_step.specs.Step.{step}
-use Rattle.xv_pte.specs.declared.access.Kind3.TheVariants as kinds
-use Rattle.xv_pte.specs.declared.access.Kind3.{Kind3}
 use Rattle.xv_pte.specs.Entry.{kind_of}
 use Rattle.xv_pte.specs.Sv39 as sv39
 
@@ -55,14 +52,10 @@ inputs = record { lines = record { timer = false; external = false }; time = 7 }
 
 -- ---- a machine by itself
 
-plain_kind : effects.Access → Kind3
-plain_kind (effects.Load width signed va rd) = kinds.Load
-plain_kind (effects.Store width va value) = kinds.Store
-
 answer : State (List ℕ) ℕ → Ask → State (List ℕ) ℕ
 answer s (Entry access va gpa) = trapped (access_fault access) va s
 answer s (Target access va gpa) = trapped (access_fault access) va s
-answer s (Plain access va gpa) = trapped (access_fault (plain_kind access)) va s
+answer s (Plain access va gpa) = trapped (access_fault (access_kind access)) va s
 answer s Call = record (set 10 (2 ^ 64 - 2) (set 11 0 s)) { pc = s.pc + 4 }
 answer s Wait = record s { pc = s.pc + 4 }
 
@@ -226,7 +219,7 @@ table =
     software status = record reset_csrs { ssip = true; sie = 2; stvec = 0x8000_0021; sstatus = status }
 
 the_rows : map (λ r. r.0) table ≡ map (λ r. r.1) table
-unfolding start mapped sv39.walked kind_of ran ran_in_user at_x5 ones table in_user with_csrs trap_of registers mode mode_of word steps memory_of bytes_of number_at stored_at bus inputs base answered answer plain_kind step decode_of row_of rows form_of operation_at effect_of chosen_interrupt pending sip_of csr_read csr_written register_of entered handler returned returns_to_user kept_stvec reset_csrs sv39.verdict
+unfolding start mapped sv39.walked kind_of ran ran_in_user at_x5 ones table in_user with_csrs trap_of registers mode mode_of word steps memory_of bytes_of number_at stored_at bus inputs base answered answer step decode_of row_of rows form_of operation_at effect_of chosen_interrupt pending sip_of csr_read csr_written register_of entered handler returned returns_to_user kept_stvec reset_csrs sv39.verdict
 the_rows = refl
 
 -- WFI in S is left to who asks for the step

@@ -21,7 +21,12 @@ pub data Outcome (Memory Place : Type 0) : Type 0 where
   Went : State Memory Place → Outcome Memory Place
   Left : Ask → Outcome Memory Place
 
--- the causes of exceptions (4.1.8, table 4.2)
+-- the kind of a plain access
+abbrev pub access_kind : effects.Access → Kind3
+access_kind (effects.Load width signed va rd) = kinds.Load
+access_kind (effects.Store width va value) = kinds.Store
+
+-- the causes of exceptions (Privileged Architecture, 4.1.8, table 4.2)
 abbrev pub misaligned_fetch : ℕ
 misaligned_fetch = 0
 

@@ -47,16 +47,16 @@ module _ {M P : Type 0} (bus : Bus M P) (inputs : Inputs) (word : ℕ) (i : Insn
   abbrev pub illegal : Outcome M P
   illegal = Went (trapped illegal_instruction word s)
 
-  -- in S alone: in U the instruction is illegal
+  -- in S alone: in U the instruction is illegal (Privileged Architecture, 3.3.2, 3.3.3 and 4.2.1)
   abbrev pub in_supervisor : Outcome M P → Outcome M P
   in_supervisor done = if s.user then illegal else done
 
-  -- a jump writes its link only where its target is aligned
+  -- a jump writes its link only where its target is aligned (Unprivileged ISA 20191213, 2.5)
   abbrev pub jumped : ℕ → ℕ → ℕ → Outcome M P
   jumped target rd link =
       if target % 4 == 0 then Went (at_pc target (set rd link s)) else Went (trapped misaligned_fetch target s)
 
-  -- ---- memory
+  -- ---- memory (Unprivileged ISA, 2.6, and 8.2 and 8.4 for the atomics)
 
   abbrev pub loaded : ℕ → Bool → ℕ → P → Outcome M P
   loaded width signed rd place = goes_on (set rd (extended signed width (bus.get s.memory width place)) s)
@@ -87,7 +87,7 @@ module _ {M P : Type 0} (bus : Bus M P) (inputs : Inputs) (word : ℕ) (i : Insn
       let old = extended true width (bus.get s.memory width place) in
       goes_on (set rd old (record s { memory = bus.put s.memory width place (low_bytes width (result_of op old value)) }))
 
-  -- ---- CSRs and modes
+  -- ---- CSRs and modes (Unprivileged ISA, chapter 9; Privileged Architecture, 3.3 and 4.2)
 
   -- the old value goes to rd
   abbrev pub csr_given : ℕ → ℕ → Option SCsrs → Outcome M P
@@ -102,11 +102,11 @@ module _ {M P : Type 0} (bus : Bus M P) (inputs : Inputs) (word : ℕ) (i : Insn
   abbrev pub csr : ℕ → CsrChange → ℕ → Outcome M P
   csr number change rd = csr_changed number change rd (csr_read s.csrs number s.user inputs.lines inputs.time)
 
-  -- ECALL: in U an exception; in S what answers is no part of the hart
+  -- ECALL (3.3.1): in U an exception; in S what answers is no part of the hart
   abbrev pub called : Outcome M P
   called = if s.user then Went (trapped call_from_user 0 s) else Left Call
 
-  -- SRET: the pc is sepc
+  -- SRET (3.3.2): the pc is sepc
   abbrev pub returned_to : Outcome M P
   returned_to = Went (record s { pc = s.csrs.sepc; user = returns_to_user s.csrs; csrs = returned s.csrs })
 

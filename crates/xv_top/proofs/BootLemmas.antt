@@ -8,8 +8,8 @@ use Rattle.xv_base.specs.Fault.{Rose}
 use Rattle.xv_outside.specs.Outside.{left_after, taken_with, TookFront}
 use Rattle.xv_top.specs.declared.command.Command.{Command}
 use Rattle.xv_top.specs.declared.manager.Manager.{Manager}
-use Rattle.xv_top.specs.declared.machine.Machine.{Machine}
-use Rattle.xv_top.specs.Hart.{taken_by}
+use Rattle.xv_hart.specs.declared.machine.Machine.{Machine}
+use Rattle.xv_hart.specs.Hart.{taken_by}
 use Rattle.xv_top.specs.World.{World, first_world}
 use Rattle.xv_top.specs.Manager.{world_of, guests_of}
 use Rattle.xv_top.specs.Script.{commands, commands_of, lines}

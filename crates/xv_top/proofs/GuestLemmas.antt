@@ -1,21 +1,20 @@
 -- A guest's memory through its window is the memory of its lone machine, so that both step alike.
-use Rattle.std.proofs.Common.{◌≡◌, ℕ, ◌+◌, ◌-◌, ◌*◌, ◌≤◌, Bool, true, false, ◌&&◌, leb, cond, List, [], ◌∷◌, length, Option, Some, None, option_map, option_and_then, is_some, refl, sym, ap, ◌∙◌, arith}
+use Rattle.std.proofs.Common.{◌≡◌, ℕ, ◌+◌, ◌-◌, ◌*◌, ◌≤◌, Bool, true, false, ◌&&◌, eqb, leb, cond, List, [], ◌∷◌, length, Option, Some, None, option_map, is_some, refl, sym, ap, ◌∙◌, arith}
 use Rattle.std.proofs.lemmas.Bool.{and_parts, leb-true}
-use Rattle.xv_mem.specs.Bytes.{range, put}
+use Rattle.std.proofs.lemmas.Bool.Decides.{nat_tests}
+use Rattle.xv_mem.specs.Bytes.{range, put, put_word, word_at}
 use Rattle.xv_mem.proofs.Puts.{range-put_inside}
-use Rattle.xv_mem.proofs.Words.{word_at-range}
+use Rattle.xv_mem.proofs.Words.{word_at-range, range-put_word_inside, length-put_word}
+use Rattle.xv_step.specs.Bus.{Spot}
+use Rattle.xv_step.proofs.BusLemmas.{AreJoined}
+use Rattle.xv_hart.specs.Window.{window_bus, host_of}
 use Rattle.xv_lone.specs.Plan.{flat, flat_base}
-use Rattle.xv_lone.specs.Rows.{action_of}
-use Rattle.xv_lone.specs.Step.{Core, step, perform}
-use Rattle.xv_lone.specs.Machine.{Machine, lone_bus, lone_step, with_core}
-use Rattle.xv_lone.specs.Turn.{InTurn, one_more, whole_turn, turn, steps, ending, ending_after}
-use Rattle.xv_lone.specs.Cell.{Cell, cell}
+use Rattle.xv_lone.specs.Machine.{Machine}
+use Rattle.xv_lone.specs.Cell.{Cell, Memory, cell}
+use Rattle.xv_lone.specs.Step.{lone_bus}
 use Rattle.xv_lone.specs.Journal.{loaded, stored_at}
-use Rattle.xv_lone.proofs.IterateLemmas.{iterate-map}
 use Rattle.xv_top.specs.declared.guest.Guest.{Guest}
-use Rattle.xv_top.specs.Hart.{window_bus, host_of}
-use Rattle.xv_top.specs.Machine.{InRun, one_more_step, whole_run}
-use Rattle.xv_top.specs.Guest.{lone_of, host_base, window_of, regs_of_guest}
+use Rattle.xv_top.specs.Guest.{lone_of, host_base, window_of, cell_at}
 
 -- whether n bytes at a guest physical address lie in the guest's memory
 abbrev within : Guest → ℕ → ℕ → Bool
@@ -26,48 +25,79 @@ within_fits g a n h =
     let parts = and_parts (leb flat_base a) (leb (a + n) (flat_base + 4096 * g.pages)) h in
     omega (arith, leb-true flat_base a parts.0, leb-true (a + n) (flat_base + 4096 * g.pages) parts.1)
 
--- two searches that find at the same time, and what follows them
-both_find : {P Q B : Type 0} (b : Bool) (p : P) (q : Q) (f : P → Option B) (g : Q → Option B) → (b ≡ true → f p ≡ g q) → option_and_then f (cond b (Some p) None) ≡ option_and_then g (cond b (Some q) None)
-both_find true p q f g e = e refl
-both_find false p q f g e = refl
+-- ---- the two buses
 
-same_step : (g : Guest) (mem : List ℕ) (c : Core) → step (lone_bus (flat g.pages)) (range mem host_base (4096 * g.pages) ∷ []) c ≡ step (window_bus (window_of g)) mem c
-unfolding step
-same_step g mem c =
-    both_find (within g c.pc 4) _ _ _ _
-    (λ h. ap (λ word. perform (action_of word c.x c.pc) c) (word_at-range 4 mem host_base (4096 * g.pages) (c.pc - flat_base) (within_fits g c.pc 4 h)))
+-- the guest's memory, of all host bytes
+abbrev pub seen_memory : Guest → List ℕ → Memory
+seen_memory g bytes = range bytes host_base (4096 * g.pages) ∷ []
 
--- the lone machine whose VCPU has these registers
-abbrev pub with_regs : Guest → List ℕ → Core → Machine
-with_regs g mem c = lone_of (record g { view = with_core g.view c }) mem
+-- host bytes that have the guest's memory
+abbrev pub IsGoodFor : Guest → List ℕ → Type 0
+IsGoodFor g bytes = host_base + 4096 * g.pages ≤ length bytes
 
-same_lone_step : (g : Guest) (mem : List ℕ) (c : Core) → lone_step (flat g.pages) 0 (with_regs g mem c) ≡ option_map (with_regs g mem) (step (window_bus (window_of g)) mem c)
-unfolding lone_step
-same_lone_step g mem c = ap (option_map (with_regs g mem)) (same_step g mem c)
+-- so many bytes from a host address on are the guest's
+pub record StandsIn (g : Guest) (width at : ℕ) : Type 0 where
+  pub first : host_base ≤ at
+  pub last : at + width ≤ host_base + 4096 * g.pages
 
-abbrev as_turn : Guest → List ℕ → InRun → InTurn
-as_turn g mem r = record { machine = with_regs g mem r.core; steps = r.made }
+back : (offset : ℕ) → offset ≡ host_base + offset - host_base
+back offset = omega arith
 
-one_alike : (g : Guest) (mem : List ℕ) (r : InRun) → one_more (flat g.pages) 0 (as_turn g mem r) ≡ option_map (as_turn g mem) (one_more_step (window_of g) mem r)
-one_alike g mem r =
-    ap (option_map (λ m. record { machine = m; steps = r.made + 1 })) (same_lone_step g mem r.core)
-    ∙ maps (step (window_bus (window_of g)) mem r.core)
+abbrev lone_spot : Cell → Spot Cell
+lone_spot c = record { place = c; writable = true }
+
+abbrev host_spot : ℕ → Spot ℕ
+host_spot at = record { place = at; writable = true }
+
+abbrev seen_spot : Spot ℕ → Spot Cell
+seen_spot spot = record { place = cell_at spot.place; writable = spot.writable }
+
+found_same : (b : Bool) (offset : ℕ)
+    → option_map lone_spot (cond b (Some (record { region = 0; offset = offset })) None) ≡ option_map seen_spot (option_map host_spot (cond b (Some (host_base + offset)) None))
+found_same true offset = ap (λ n. Some (lone_spot (record { region = 0; offset = n }))) (back offset)
+found_same false offset = refl
+
+spot_found : (b : Bool) (at : ℕ) (spot : Spot ℕ) → option_map host_spot (cond b (Some at) None) ≡ Some spot → (b ≡ true) × (at ≡ spot.place)
+spot_found true at spot e = (refl, some_place e)
   where
-    maps : (o : Option Core) → option_map (λ m. record { machine = m; steps = r.made + 1 }) (option_map (with_regs g mem) o) ≡ option_map (as_turn g mem) (option_map (λ c. record { core = c; made = r.made + 1 }) o)
-    maps None = refl
-    maps (Some c) = refl
+    some_place : Some (host_spot at) ≡ Some spot → at ≡ spot.place
+    some_place e = cc
+spot_found false at spot e = cc
 
-pub same_turn : (g : Guest) (mem : List ℕ) → whole_turn (flat g.pages) 0 (lone_of g mem) ≡ as_turn g mem (whole_run (regs_of_guest g) mem)
-unfolding whole_turn whole_run
-same_turn g mem =
-    iterate-map (one_more_step (window_of g) mem) (one_more (flat g.pages) 0) (as_turn g mem) (one_alike g mem) 1000 (record { core = record { x = g.view.x; pc = g.view.pc }; made = 0 })
+pub joined : (g : Guest) → AreJoined (lone_bus (flat g.pages)) (window_bus (window_of g)) (seen_memory g) cell_at (IsGoodFor g) (StandsIn g)
+joined g = record {
+  find = λ width gpa. found_same (within g gpa width) (gpa - flat_base);
+  stands = λ width gpa spot found.
+      let there = spot_found (within g gpa width) (host_base + (gpa - flat_base)) spot found in
+      let fits = within_fits g gpa width there.0 in
+      record { first = omega (arith, there.1); last = omega (arith, there.1, fits) };
+  get = λ bytes width at good stands.
+      let offset : ℕ = at - host_base in
+      word_at-range width bytes host_base (4096 * g.pages) offset (omega (arith, stands.first, stands.last))
+      ∙ ap (word_at width bytes) (let e : host_base + offset ≡ at = omega (arith, stands.first) in e);
+  put = λ bytes width at value good stands.
+      let offset : ℕ = at - host_base in
+      let e : host_base + offset ≡ at = omega (arith, stands.first) in
+      ap (λ r. r ∷ [])
+      (sym (range-put_word_inside width bytes host_base (4096 * g.pages) offset value (omega (arith, stands.first, stands.last)) good)
+      ∙ ap (λ n. range (put_word width bytes n value) host_base (4096 * g.pages)) e);
+  good = λ bytes width at value good stands.
+      let same = length-put_word width bytes at value (omega (arith, stands.last, good)) in
+      omega (arith, same, good);
+  same = λ held width one other stands others. same_place one other stands.first others.first;
+}
+  where
+    same_place : (one other : ℕ) → host_base ≤ one → host_base ≤ other → eqb (one - host_base) (other - host_base) ≡ eqb one other
+    same_place one other a b = grind (arith, nat_tests)
+
+-- ---- loads
 
 found_there : {A : Type 0} (b : Bool) (x y : A) → cond b (Some x) None ≡ Some y → (b ≡ true) × (x ≡ y)
 found_there true x y e = (refl, cc)
 found_there false x y e = cc
 
 -- bytes put where the window leads are a load of the lone machine
-pub same_load : (g : Guest) (mem bytes : List ℕ) (gpa at : ℕ) → host_base + 4096 * g.pages ≤ length mem → host_of (window_of g) gpa (length bytes) ≡ Some at → lone_of g (put mem at bytes) ≡ loaded (flat g.pages) gpa bytes (lone_of g mem)
+pub same_load : (g : Guest) (mem bytes : List ℕ) (gpa at : ℕ) → host_base + 4096 * g.pages ≤ length mem → host_of (window_of g) (length bytes) gpa ≡ Some at → lone_of g (put mem at bytes) ≡ loaded (flat g.pages) gpa bytes (lone_of g mem)
 same_load g mem bytes gpa at fits found =
     let offset : ℕ = gpa - flat_base in
     let there = found_there (within g gpa (length bytes)) (host_base + offset) at found in
@@ -77,29 +107,15 @@ same_load g mem bytes gpa at fits found =
     ∙ sym (ap stored there.0))
 
 -- where the window leads, the bytes have a cell
-pub some_load : (g : Guest) (gpa n at : ℕ) → host_of (window_of g) gpa n ≡ Some at → is_some (cell (flat g.pages) gpa n) ≡ true
+pub some_load : (g : Guest) (gpa n at : ℕ) → host_of (window_of g) n gpa ≡ Some at → is_some (cell (flat g.pages) gpa n) ≡ true
 some_load g gpa n at found =
     let test : Bool → Option Cell = λ b. cond b (Some (record { region = 0; offset = gpa - flat_base })) None in
     ap (λ b. is_some (test b)) (found_there (within g gpa n) (host_base + (gpa - flat_base)) at found).0
 
 -- where the window leads nowhere, the bytes have no cell
-pub no_load : (g : Guest) (gpa n : ℕ) → host_of (window_of g) gpa n ≡ None → cell (flat g.pages) gpa n ≡ None
+pub no_load : (g : Guest) (gpa n : ℕ) → host_of (window_of g) n gpa ≡ None → cell (flat g.pages) gpa n ≡ None
 no_load g gpa n none = nowhere (within g gpa n) (host_base + (gpa - flat_base)) (record { region = 0; offset = gpa - flat_base }) none
   where
     nowhere : {A B : Type 0} (b : Bool) (x : A) (y : B) → cond b (Some x) None ≡ None → cond b (Some y) None ≡ None
     nowhere true x y e = cc
     nowhere false x y e = refl
-
--- what a turn of the lone machine is, by a turn of the hart
-module _ (g : Guest) (mem : List ℕ) where
-  pub turn_is : turn (flat g.pages) 0 (lone_of g mem) ≡ with_regs g mem (whole_run (regs_of_guest g) mem).core
-  unfolding turn
-  turn_is = ap (λ t. t.machine) (same_turn g mem)
-
-  pub steps_are : steps (flat g.pages) 0 (lone_of g mem) ≡ (whole_run (regs_of_guest g) mem).made
-  unfolding steps
-  steps_are = ap (λ t. t.steps) (same_turn g mem)
-
-  pub ending_is : ending (flat g.pages) 0 (lone_of g mem) ≡ ending_after (whole_run (regs_of_guest g) mem).made
-  unfolding ending
-  ending_is = ap ending_after steps_are

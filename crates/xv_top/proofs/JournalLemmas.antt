@@ -5,17 +5,14 @@ use Rattle.std.proofs.lemmas.Bool.{cond_both, cond-true, cond-false, ltb-false}
 use Rattle.std.proofs.lemmas.List.{append-nil, append_assoc}
 use Rattle.std.proofs.lemmas.Slice.Eq.{bytes_eq-Decides}
 use Rattle.xv_lone.specs.declared.vcpu.VcpuView.{VcpuView}
-use Rattle.xv_lone.specs.declared.vcpu.TurnEnd.{TurnEnd}
-use Rattle.xv_lone.specs.declared.vcpu.TurnEnd.TheVariants.{Spent, Unbuilt}
 use Rattle.xv_lone.specs.Plan.{Plan, flat, need}
 use Rattle.xv_lone.specs.Cell.{Cell, cell}
 use Rattle.xv_lone.specs.Machine.{Machine, new_machine}
-use Rattle.xv_lone.specs.Turn.{ending, iterate, or_on}
 use Rattle.xv_lone.specs.Journal.{Entry, Born, Load, Kick, Turn, changed, after_entry, replay, replay_from}
 use Rattle.xv_top.specs.declared.command.Command.{Command}
 use Rattle.xv_top.specs.declared.command.Command.TheVariants as command
-use Rattle.xv_top.specs.World.{LiveGuest, World, Entered, RunSoFar, first_world, entered_guest, one_turn, after_turn, next_turn, pick, run_of, guest_named, free}
-use Rattle.xv_top.specs.Answer.{Answer, answer, refused, flat_answer, poke_guest, poke_at, kick_guest, regs_guest, regs_of_vcpu, run_answer, ran_answer}
+use Rattle.xv_top.specs.World.{LiveGuest, World, Entered, RunSoFar, first_world, entered_guest, one_turn, pick, run_from, run_of, guest_named, free}
+use Rattle.xv_top.specs.Answer.{Answer, answer, refused, flat_answer, poke_guest, poke_at, kick_guest, regs_guest, regs_of_vcpu, run_answer}
 use Rattle.xv_top.specs.Texts.{frames_text, regs_text}
 use Rattle.xv_top.specs.Transcript.{world_after}
 use Rattle.xv_top.specs.Journals.{extended, journal_from, journal_of, entered_by, AreReplayed}
@@ -80,39 +77,19 @@ born_replayed name plan clock es =
 abbrev RunReplayed : List Entered → RunSoFar → Type 0
 RunReplayed es r = AreReplayed (es ++ r.entered) r.world.guests
 
-turn_replayed : (es : List Entered) (r : RunSoFar) (g : LiveGuest) (end : TurnEnd) → RunReplayed es r → RunReplayed es (after_turn r g end)
-turn_replayed es r g Spent h = subst (λ all. AreReplayed all (map (entered_guest g.name (Turn 0 r.world.clock)) r.world.guests)) (append_assoc es r.entered (an_entry g.name (Turn 0 r.world.clock) ∷ [])) (all_replayed g.name (Turn 0 r.world.clock) (es ++ r.entered) r.world.guests tt h)
-turn_replayed es r g Unbuilt h = subst (λ all. AreReplayed all (map (entered_guest g.name (Turn 0 r.world.clock)) r.world.guests)) (append_assoc es r.entered (an_entry g.name (Turn 0 r.world.clock) ∷ [])) (all_replayed g.name (Turn 0 r.world.clock) (es ++ r.entered) r.world.guests tt h)
-
 one_turn_replayed : (es : List Entered) (r : RunSoFar) (o : Option LiveGuest) → RunReplayed es r → RunReplayed es (one_turn r o)
 one_turn_replayed es r None h = h
-one_turn_replayed es r (Some g) h = turn_replayed es r g (ending g.plan 0 g.machine) h
+one_turn_replayed es r (Some g) h = subst (λ all. AreReplayed all (map (entered_guest g.name (Turn 0 r.world.clock)) r.world.guests)) (append_assoc es r.entered (an_entry g.name (Turn 0 r.world.clock) ∷ [])) (all_replayed g.name (Turn 0 r.world.clock) (es ++ r.entered) r.world.guests tt h)
 
-or_on_keeps : {S : Type 0} (P : S → Type 0) (next : S → S) (s : S) (o : Option S) → P s → ((t : S) → o ≡ Some t → P (next t)) → P (or_on next s o)
-or_on_keeps P next s None h f = h
-or_on_keeps P next s (Some t) h f = f t refl
-
-iterate_keeps : {S : Type 0} (P : S → Type 0) (f : S → Option S) → ((s t : S) → f s ≡ Some t → P s → P t) → (n : ℕ) (s : S) → P s → P (iterate f n s)
-unfolding iterate
-iterate_keeps P f step zero s h = h
-iterate_keeps P f step (suc n) s h = or_on_keeps P (iterate f n) s (f s) h (λ t e. iterate_keeps P f step n t (step s t e h))
-
-some_same : {A : Type 0} (a b : A) → Some a ≡ Some b → a ≡ b
-some_same a b e = cc
-
-next_replayed : (es : List Entered) (r t : RunSoFar) → next_turn r ≡ Some t → RunReplayed es r → RunReplayed es t
-next_replayed es r t e h = by_unbuilt r.unbuilt refl
-  where
-    by_unbuilt : (u : Option ℕ) → r.unbuilt ≡ u → RunReplayed es t
-    by_unbuilt None none =
-        let going : RunSoFar = record r { unbuilt = None } in
-        subst (RunReplayed es) (some_same (one_turn going (pick r.world)) t (sym (ap (λ u. next_turn (record r { unbuilt = u })) none) ∙ e)) (one_turn_replayed es going (pick r.world) h)
-    by_unbuilt (Some pc) some = let no : None ≡ Some t = sym (ap (λ u. next_turn (record r { unbuilt = u })) some) ∙ e in cc
+run_from_replayed : (es : List Entered) (turns : ℕ) (r : RunSoFar) → RunReplayed es r → RunReplayed es (run_from turns r)
+unfolding run_from
+run_from_replayed es zero r h = h
+run_from_replayed es (suc n) r h = run_from_replayed es n (one_turn r (pick r.world)) (one_turn_replayed es r (pick r.world) h)
 
 run_replayed : (es : List Entered) (turns : ℕ) (w : World) → AreReplayed es w.guests → RunReplayed es (run_of turns w)
 unfolding run_of
 run_replayed es turns w h =
-    iterate_keeps (RunReplayed es) next_turn (next_replayed es) turns (record { world = w; idle = 0; work = 0; entered = []; unbuilt = None })
+    run_from_replayed es turns (record { world = w; idle = 0; work = 0; entered = [] })
     (subst (λ all. AreReplayed all w.guests) (sym (append-nil es)) h)
 
 -- an answer keeps it
@@ -163,11 +140,7 @@ module _ (es : List Entered) (w : World) (h : AreReplayed es w.guests) where
 
   turns_replayed : (turns : ℕ) → AnswerReplayed es (run_answer w turns)
   turns_replayed turns =
-      cond_both _ _ _ (AnswerReplayed es) (λ _. same_replayed (refused w (codes "turns")) refl refl) (λ _. ran (run_of turns w).unbuilt)
-    where
-      ran : (u : Option ℕ) → AnswerReplayed es (ran_answer turns (run_of turns w) u)
-      ran None = run_replayed es turns w h
-      ran (Some pc) = run_replayed es turns w h
+      cond_both _ _ _ (AnswerReplayed es) (λ _. same_replayed (refused w (codes "turns")) refl refl) (λ _. run_replayed es turns w h)
 
   answer_replayed : (c : Command) → AnswerReplayed es (answer w c)
   unfolding answer

@@ -1,14 +1,13 @@
-mod RunLemmas
-mod HartEq
 mod TextLemmas
 mod ScriptLemmas
 pub mod BuiltLemmas
 mod GuestLemmas
+mod MonitorLemmas
+mod TurnLemmas
 mod NeedLemmas
 mod ManagerLemmas
-mod TurnsLemmas
+mod RunLemmas
 mod ReadLemmas
 mod FoldLemmas
 mod BootLemmas
-mod RowsLemmas
 mod JournalLemmas

@@ -1,5 +1,5 @@
 -- How the manager's guest, clock and counts are the world, command by command.
-use Rattle.std.proofs.Common.{◌≡◌, ℕ, zero, suc, slice_get, ◌+◌, ◌-◌, ◌*◌, ◌≤◌, Bool, true, false, cond, ltb, List, [], ◌∷◌, length, replicate, Option, Some, None, is_some, option_map, map, find, refl, sym, ap, ◌∙◌, arith}
+use Rattle.std.proofs.Common.{◌≡◌, ℕ, zero, suc, slice_get, ◌+◌, ◌-◌, ◌*◌, ◌^◌, ◌<◌, ◌≤◌, Bool, true, false, cond, ltb, List, [], ◌∷◌, length, replicate, Option, Some, None, is_some, option_map, map, find, refl, sym, ap, ◌∙◌, arith}
 use Rattle.std.specs.Str.{bytes_eq}
 use Rattle.std.proofs.lemmas.Bool.{cond-true}
 use Rattle.xv_mem.specs.Bytes.{range}
@@ -7,14 +7,19 @@ use Rattle.xv_mem.proofs.Puts.{range-replicate}
 use Rattle.xv_lone.specs.declared.vcpu.VcpuView.{VcpuView}
 use Rattle.xv_lone.specs.Plan.{flat, need}
 use Rattle.xv_lone.specs.Cell.{Cell}
-use Rattle.xv_lone.specs.Journal.{Entry, Load, changed}
+use Rattle.xv_lone.specs.Machine.{guest_time}
+use Rattle.xv_lone.specs.Ready as ready
+use Rattle.xv_lone.specs.Journal.{Entry, Load, Turn, changed}
+use Rattle.xv_lone.specs.Turn.{turn}
+use Rattle.std.proofs.lemmas.Slice.Eq.{bytes_eq-Decides}
+use Rattle.xv_csr.proofs.KeptLemmas.{reset_csrs-kept}
 use Rattle.xv_top.specs.declared.guest.Guest.{Guest}
 use Rattle.xv_top.specs.declared.manager.Manager.{Manager}
 use Rattle.xv_top.specs.declared.command.Command.TheVariants.{Flat, Poke, Kick, Regs, Run}
 use Rattle.xv_top.specs.Texts.{frames_text, poked_text}
-use Rattle.xv_top.specs.World.{LiveGuest, World, guest_named, entered, entered_guest, pick, is_ready, run_of}
+use Rattle.xv_top.specs.World.{LiveGuest, World, guest_named, entered, entered_guest, pick, run_of}
 use Rattle.xv_top.specs.Answer.{Answer, answer, created, flat_answer, poke_guest, poke_at, kick_guest, regs_guest, run_answer, most_turns, work_in}
-use Rattle.xv_top.specs.Guest.{live_guest, lone_of, host_base, new_guest}
+use Rattle.xv_top.specs.Guest.{live_guest, lone_of, host_base, new_guest, IsHeld}
 use Rattle.xv_top.specs.Manager.{world_of, guests_of, Gives}
 
 pub gives_by : (a b : Answer) {printed : List ℕ} {after : World} → a ≡ b → Gives b printed after → Gives a printed after
@@ -93,12 +98,16 @@ pub same_guest : (m : Manager) (g : Guest) (now : List ℕ) → m.guest ≡ Some
 same_guest m g now there = ap (λ o. record { pool = m.pool; clock = m.clock; tick = m.tick; turns = m.turns; guests = guests_of o now }) there
 
 -- whose turn it is
-pub pick_none : (m : Manager) (bytes : List ℕ) → m.guest ≡ None → pick (world_of m bytes) ≡ None
-pick_none m bytes none = ap (λ o. find (is_ready 0) (guests_of o bytes)) none
+-- readiness is the guest's and the clock's alone
+abbrev pub ready_at : ℕ → LiveGuest → Bool
+ready_at clock g = ready.is_ready 0 (guest_time clock g.machine) g.machine
 
-pub pick_one : (m : Manager) (g : Guest) (bytes : List ℕ) (b : Bool) → m.guest ≡ Some g → is_ready 0 (live_guest g bytes) ≡ b → pick (world_of m bytes) ≡ cond b (Some (live_guest g bytes)) None
-pick_one m g bytes b there ready =
-    ap (λ o. find (is_ready 0) (guests_of o bytes)) there ∙ ap (λ r. cond r (Some (live_guest g bytes)) None) ready
+pub pick_none : (m : Manager) (bytes : List ℕ) → m.guest ≡ None → pick (world_of m bytes) ≡ None
+pick_none m bytes none = ap (λ o. find (ready_at m.clock) (guests_of o bytes)) none
+
+pub pick_one : (m : Manager) (g : Guest) (bytes : List ℕ) (b : Bool) → m.guest ≡ Some g → ready_at m.clock (live_guest g bytes) ≡ b → pick (world_of m bytes) ≡ cond b (Some (live_guest g bytes)) None
+pick_one m g bytes b there is_ready =
+    ap (λ o. find (ready_at m.clock) (guests_of o bytes)) there ∙ ap (λ r. cond r (Some (live_guest g bytes)) None) is_ready
 
 -- a guest has VCPU 0 alone
 pub no_vcpu : (v : VcpuView) (vcpu : ℕ) → (vcpu ≡ 0 → ⊥) → slice_get (v ∷ []) vcpu ≡ None
@@ -111,3 +120,16 @@ same_none m bytes none = ap (λ o. record { pool = m.pool; clock = m.clock; tick
 pub work_is : (w : World) (turns : ℕ) → work_in w (Run turns) ≡ cond (ltb most_turns (w.turns + turns)) 0 (run_of turns w).work
 unfolding work_in
 work_is w turns = refl
+
+pub new_held : (name : List ℕ) (pages clock size : ℕ) → 0 < pages → host_base + 4096 * pages ≤ size → size < 2 ^ 45 → IsHeld (new_guest name pages clock) size
+new_held name pages clock size some fits small = record { some = some; pages = fits; small = small; pc = refl; csrs = reset_csrs-kept }
+
+-- what a turn of the guest is to the world
+module _ (m : Manager) (g h : Guest) (bytes now : List ℕ) (there : m.guest ≡ Some g) (others : h ≡ record g { view = h.view })
+    (machine : lone_of h now ≡ turn (flat g.pages) 0 (guest_time m.clock (lone_of g bytes)) (lone_of g bytes)) where
+  pub turn_entered : world_of (record m { guest = Some h }) now ≡ entered g.name (Turn 0 m.clock) (world_of m bytes)
+  turn_entered =
+      entered_one m g h bytes now g.name (Turn 0 m.clock) there ((bytes_eq-Decides g.name g.name).1 refl)
+      (ap (λ n. record { name = n; plan = flat h.pages; machine = lone_of h now }) (ap (λ o. o.name) others)
+      ∙ (ap (λ n. record { name = g.name; plan = flat n; machine = lone_of h now }) (ap (λ o. o.pages) others)
+      ∙ ap (λ l. record { name = g.name; plan = flat g.pages; machine = l }) machine))

@@ -1,47 +1,63 @@
--- A turn of the hart, step by step: what is made so far, continued by the rest, is the whole.
-use Rattle.std.proofs.Common.{◌≡◌, ℕ, ◌+◌, ◌-◌, ◌<◌, ◌≤◌, List, Some, None, option_map, refl, sym, ap, ◌∙◌, arith}
-use Rattle.xv_lone.specs.Step.{Core, step}
-use Rattle.std.proofs.lemmas.Bool.Decides.{nat_tests}
-use Rattle.xv_lone.specs.declared.vcpu.TurnEnd.TheVariants.{Spent, Unbuilt}
-use Rattle.xv_lone.specs.Turn.{iterate, ending_after}
-use Rattle.xv_lone.proofs.IterateLemmas.{iterate_over, iterate_more, iterate_none}
-use Rattle.xv_top.specs.declared.hart.Regs.{Regs}
-use Rattle.xv_top.specs.Hart.{window_bus, core_of, hart_step}
-use Rattle.xv_top.specs.Machine.{InRun, one_more_step, whole_run}
+-- A run of turns, turn by turn: what is made so far, continued by the rest, is the whole.
+use Rattle.std.proofs.Common.{◌≡◌, ℕ, suc, ◌+◌, ◌-◌, ◌<◌, ◌≤◌, Bool, true, false, List, [], refl, sym, ap, ◌∙◌, arith}
+use Rattle.xv_top.specs.World.{World, Entered, RunSoFar, one_turn, pick, run_from, run_of}
+use Rattle.xv_top.specs.Manager.{going, IsTurn, IsRunEnd, idle_of}
 
-abbrev at : Core → ℕ → InRun
-at c i = record { core = c; made = i }
+-- a run of so many turns from first has come to now, with so many made
+pub record IsGoing (turns made : ℕ) (first now : World) (idle taken_first taken_now : ℕ) : Type 0 where
+  pub work : ℕ
+  pub entered : List Entered
+  pub whole : run_from (turns - made) (going now idle work entered) ≡ run_of turns first
+  pub counted : taken_first + work ≤ taken_now
 
-module _ (first now : Regs) (bytes held : List ℕ) (i : ℕ)
-    (whole : iterate (one_more_step first.window bytes) (1000 - i) (at (core_of now) i) ≡ whole_run first bytes)
-    (window : now.window ≡ first.window) (memory : held ≡ bytes) where
-  same_step : step (window_bus first.window) bytes (core_of now) ≡ hart_step now held
-  same_step =
-      ap (λ w. step (window_bus w) bytes (core_of now)) (sym window)
-      ∙ ap (λ b. step (window_bus now.window) b (core_of now)) (sym memory)
+pub turns_start : (turns : ℕ) (first : World) (taken : ℕ) → IsGoing turns 0 first first 0 taken taken
+unfolding run_of
+turns_start turns first taken = record {
+  work = 0;
+  entered = [];
+  whole = ap (λ n. run_from n (going first 0 0 [])) (let e : turns - 0 ≡ turns = omega arith in e);
+  counted = omega arith;
+}
 
-  pub run_stops : hart_step now held ≡ None → whole_run first bytes ≡ at (core_of now) i
-  run_stops none =
-      sym whole ∙ iterate_over (one_more_step first.window bytes) (1000 - i) (at (core_of now) i) (ap (option_map (λ c. at c (i + 1))) (same_step ∙ none))
+run_more : (n m : ℕ) (r : RunSoFar) → m ≡ suc n → run_from m r ≡ run_from n (one_turn r (pick r.world))
+unfolding run_from
+run_more n m r e = ap (λ k. run_from k r) e
 
-  pub run_goes_on : (c : Core) → i < 1000 → hart_step now held ≡ Some c → iterate (one_more_step first.window bytes) (1000 - (i + 1)) (at c (i + 1)) ≡ whole_run first bytes
-  run_goes_on c more some =
-      sym (iterate_more (one_more_step first.window bytes) (1000 - (i + 1)) (1000 - i) (at (core_of now) i) (at c (i + 1)) (ap (option_map (λ c'. at c' (i + 1))) (same_step ∙ some)) (omega arith))
-      ∙ whole
+run_done : (r : RunSoFar) → run_from 0 r ≡ r
+unfolding run_from
+run_done r = refl
 
-  pub run_ends : 1000 ≤ i → whole_run first bytes ≡ at (core_of now) i
-  run_ends all =
-      sym whole
-      ∙ (ap (λ n. iterate (one_more_step first.window bytes) n (at (core_of now) i)) (let e : 1000 - i ≡ 0 = omega arith in e)
-      ∙ iterate_none (one_more_step first.window bytes) (at (core_of now) i))
+pub turns_go_on : (turns made : ℕ) (first now after : World) (idle taken_first taken_now taken_after : ℕ)
+    → made < turns → (so_far : IsGoing turns made first now idle taken_first taken_now)
+    → (turned : Bool) → IsTurn now after turned (taken_after - taken_now) idle so_far.work so_far.entered → taken_now ≤ taken_after
+    → IsGoing turns (made + 1) first after (idle + idle_of turned) taken_first taken_after
+turns_go_on turns made first now after idle taken_first taken_now taken_after more so_far turned turn later =
+    let before = going now idle so_far.work so_far.entered in
+    let r = one_turn before (pick now) in
+    let e : r ≡ going after (idle + idle_of turned) r.work r.entered =
+    ap (λ w. record r { world = w }) turn.world
+    ∙ ap (λ i. record { world = after; idle = i; work = r.work; entered = r.entered }) turn.idle in
+    record {
+      work = r.work;
+      entered = r.entered;
+      whole = ap (run_from (turns - (made + 1))) (sym e) ∙ (sym (run_more (turns - (made + 1)) (turns - made) before (omega arith)) ∙ so_far.whole);
+      counted = omega (arith, turn.work, so_far.counted, later);
+    }
 
--- a turn starts with nothing made
-pub run_starts : (first : Regs) (bytes : List ℕ) → iterate (one_more_step first.window bytes) 1000 (at (core_of first) 0) ≡ whole_run first bytes
-unfolding whole_run
-run_starts first bytes = refl
+-- no turn is left
+pub turns_end : (turns made : ℕ) (first now : World) (idle taken_first taken_now : ℕ) → turns ≤ made → IsGoing turns made first now idle taken_first taken_now → IsRunEnd (run_of turns first) now idle taken_first taken_now
+turns_end turns made first now idle taken_first taken_now all so_far =
+    let last : run_of turns first ≡ going now idle so_far.work so_far.entered =
+    sym so_far.whole
+    ∙ (ap (λ n. run_from n (going now idle so_far.work so_far.entered)) (let e : turns - made ≡ 0 = omega arith in e)
+    ∙ run_done (going now idle so_far.work so_far.entered)) in
+    record {
+      world = ap (λ r. r.world) last;
+      idle = ap (λ r. r.idle) last;
+      work = omega (arith, ap (λ r. r.work) last, so_far.counted);
+    }
 
-pub ends_early : (made : ℕ) → made < 1000 → ending_after made ≡ Unbuilt
-ends_early made few = grind (arith, nat_tests)
-
-pub ends_spent : (made : ℕ) → made ≡ 1000 → ending_after made ≡ Spent
-ends_spent made all = grind (arith, nat_tests)
+-- a turn is idle once
+pub idle_few : (idle : Bool) → idle_of idle ≤ 1
+idle_few true = omega arith
+idle_few false = omega arith

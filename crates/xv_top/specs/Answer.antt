@@ -7,7 +7,7 @@ use Rattle.xv_lone.specs.Machine.{new_machine}
 use Rattle.xv_lone.specs.Journal.{Born, Load, Kick}
 use Rattle.xv_top.specs.declared.command.Command.{Command}
 use Rattle.xv_top.specs.declared.command.Command.TheVariants as command
-use Rattle.xv_top.specs.Texts.{refused_text, frames_text, created_text, poked_text, kicked_text, ran_text, unbuilt_text, regs_text}
+use Rattle.xv_top.specs.Texts.{refused_text, frames_text, created_text, poked_text, kicked_text, ran_text, regs_text}
 use Rattle.xv_top.specs.World.{LiveGuest, World, Entered, RunSoFar, free, guest_named, entered, is_reset, run_of}
 
 -- the text, the world after it, and what was entered into the journals of guests
@@ -62,14 +62,12 @@ regs_guest w name vcpu (Some g) = regs_of_vcpu w name vcpu (slice_get g.machine.
 abbrev pub most_turns : ℕ
 most_turns = 1000000
 
-abbrev pub ran_answer : ℕ → RunSoFar → Option ℕ → Answer
-ran_answer turns r None = record { text = ran_text turns r.idle r.world.clock; world = r.world; entered = r.entered }
-ran_answer turns r (Some pc) = record { text = unbuilt_text pc; world = r.world; entered = r.entered }
+abbrev pub ran_answer : ℕ → RunSoFar → Answer
+ran_answer turns r = record { text = ran_text turns r.idle r.world.clock; world = r.world; entered = r.entered }
 
 abbrev pub run_answer : World → ℕ → Answer
 run_answer w turns =
-    if nat_lt most_turns (w.turns + turns) then refused w (codes "turns")
-    else ran_answer turns (run_of turns w) (run_of turns w).unbuilt
+    if nat_lt most_turns (w.turns + turns) then refused w (codes "turns") else ran_answer turns (run_of turns w)
 
 unfoldable pub answer : World → Command → Answer
 answer w (command.Flat name pages) = flat_answer w name pages

@@ -6,8 +6,8 @@ use Rattle.xv_mem.specs.Bytes.{range}
 use Rattle.xv_lone.specs.Plan.{Region}
 use Rattle.xv_lone.specs.Cell.{Memory}
 use Rattle.xv_top.specs.declared.command.Command.{Command}
-use Rattle.xv_top.specs.declared.machine.Machine.{Machine}
-use Rattle.xv_top.specs.Hart.{taken_by}
+use Rattle.xv_hart.specs.declared.machine.Machine.{Machine}
+use Rattle.xv_hart.specs.Hart.{taken_by}
 use Rattle.xv_top.specs.World.{LiveGuest, first_world}
 use Rattle.xv_top.specs.Guest.{host_base}
 use Rattle.xv_top.specs.Script.{commands}

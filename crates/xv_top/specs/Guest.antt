@@ -1,13 +1,21 @@
 -- What the guest in the program is: a lone machine, over host memory.
-use Rattle.std.specs.Prelude.{ℕ, ◌≡◌, ◌+◌, ◌*◌, ◌%◌, ◌^◌, ◌<◌, ◌≤◌, List, [], ◌∷◌}
+use Rattle.std.specs.Prelude.{ℕ, ◌≡◌, ◌+◌, ◌-◌, ◌*◌, ◌%◌, ◌^◌, ◌<◌, ◌≤◌, List, [], ◌∷◌, map, Option, Some, None}
 use Rattle.xv_mem.specs.Bytes.{range}
 use Rattle.xv_lone.specs.declared.vcpu.GuestState.TheVariants.{Reset}
 use Rattle.xv_lone.specs.Plan.{flat, flat_base}
 use Rattle.xv_lone.specs.Vcpu.{reset_vcpu}
 use Rattle.xv_lone.specs.Machine.{Machine}
+use Rattle.xv_lone.specs.Cell.{Cell}
+use Rattle.xv_lone.specs.Step.{lines_at}
+use Rattle.xv_lone.specs.Turn.{Core, InTurn}
+use Rattle.xv_lone.specs.declared.vcpu.VcpuView.{VcpuView}
+use Rattle.xv_lone.specs.declared.vcpu.HartState.{HartState}
+use Rattle.xv_csr.specs.Kept.{IsKept}
+use Rattle.xv_step.specs.State.{Held}
+use Rattle.xv_hart.specs.declared.window.Window.{Window}
+use Rattle.xv_hart.specs.declared.regs.Regs.{Regs}
+use Rattle.xv_hart.specs.Step.{held_of}
 use Rattle.xv_top.specs.declared.guest.Guest.{Guest}
-use Rattle.xv_top.specs.declared.hart.Window.{Window}
-use Rattle.xv_top.specs.declared.hart.Regs.{Regs}
 use Rattle.xv_top.specs.World.{LiveGuest}
 
 -- the host address from which on the guest's bytes lie: behind the 64 frames of the root tables
@@ -30,17 +38,50 @@ live_guest g bytes = record { name = g.name; plan = flat g.pages; machine = lone
 abbrev pub window_of : Guest → Window
 window_of g = record { base = flat_base; size = 4096 * g.pages; host = host_base }
 
--- the registers that the hart has when the guest's turn begins
-abbrev pub regs_of_guest : Guest → Regs
-regs_of_guest g = record { x = g.view.x; pc = g.view.pc; window = window_of g }
+-- the registers that the hart has when the guest's turn begins, at guest time t: no reservation is held
+abbrev pub regs_of_guest : Guest → (t : ℕ) → Regs
+regs_of_guest g t = record {
+  x = g.view.x;
+  pc = g.view.pc;
+  user = g.view.user;
+  csrs = g.view.csrs;
+  window = window_of g;
+  lines = lines_at t g.view;
+  time = t;
+  held = None;
+}
+
+-- what the trail shows of a VCPU
+abbrev pub core_of : Regs → Core
+core_of r = record { x = r.x; pc = r.pc; user = r.user; csrs = r.csrs }
+
+-- the VCPU that is on the hart
+abbrev pub view_of : Guest → Regs → HartState → VcpuView
+view_of g r hart = record g.view { x = r.x; pc = r.pc; user = r.user; csrs = r.csrs; hart = hart }
+
+-- a host address of the guest's memory, as a cell
+abbrev pub cell_at : ℕ → Cell
+cell_at at = record { region = 0; offset = at - host_base }
+
+abbrev pub held_cell : Option (Held ℕ) → Option (Held Cell)
+held_cell None = None
+held_cell (Some held) = Some (record { place = cell_at held.place; width = held.width })
+
+-- the guest's lone machine within its turn, by what the hart shows and what its trail has
+abbrev pub in_turn : Guest → Regs → List ℕ → List Regs → HartState → InTurn
+in_turn g r bytes trail hart = record {
+  running = record { machine = lone_of (record g { view = view_of g r hart }) bytes; held = held_cell (held_of r.held) };
+  begun = map core_of trail;
+}
 
 -- a guest at its create
 abbrev pub new_guest : List ℕ → ℕ → ℕ → Guest
 new_guest name pages clock = record { name = name; pages = pages; view = reset_vcpu flat_base; state = Reset; birth = clock }
 
--- the guest's memory lies in a host memory of so many bytes, and its pc is a multiple of 4
+-- the guest's memory lies in a host memory of so many bytes, its pc is a multiple of 4, and its CSRs hold what a write keeps
 pub record IsHeld (g : Guest) (size : ℕ) : Type 0 where
   pub some : 0 < g.pages
   pub pages : host_base + 4096 * g.pages ≤ size
   pub small : size < 2 ^ 45
   pub pc : g.view.pc % 4 ≡ 0
+  pub csrs : IsKept g.view.csrs

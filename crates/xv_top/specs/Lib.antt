@@ -1,9 +1,8 @@
 pub mod Answer
 pub mod Boot
 pub mod Guest
-pub mod Hart
+pub mod Monitor
 pub mod Journals
-pub mod Machine
 pub mod Manager
 pub mod Script
 pub mod Texts

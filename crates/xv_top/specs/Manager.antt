@@ -1,12 +1,9 @@
 -- What the manager in the program is: a world, over host memory.
-use Rattle.std.specs.Prelude.{ℕ, ◌≡◌, ◌+◌, ◌*◌, ◌^◌, ◌<◌, ◌≤◌, List, [], ◌∷◌, length, replicate, Option, Some, None}
+use Rattle.std.specs.Prelude.{ℕ, ◌≡◌, ◌+◌, ◌*◌, ◌^◌, ◌<◌, ◌≤◌, List, [], ◌∷◌, length, replicate, Bool, if◌then◌else◌, Option, Some, None}
 use Rattle.xv_top.specs.declared.guest.Guest.{Guest}
 use Rattle.xv_top.specs.declared.command.Command.{Command}
 use Rattle.xv_top.specs.declared.command.Command.TheVariants.{Flat, Poke, Kick, Regs, Run}
 use Rattle.xv_top.specs.declared.manager.Manager.{Manager}
-use Rattle.xv_top.specs.declared.manager.RunEnd.{RunEnd}
-use Rattle.xv_top.specs.declared.manager.Turned.{Turned}
-use Rattle.xv_top.specs.declared.manager.Turned.TheVariants.{Idle, Made, Unbuilt}
 use Rattle.xv_top.specs.World.{LiveGuest, World, Entered, RunSoFar, one_turn, pick}
 use Rattle.xv_top.specs.Answer.{Answer}
 use Rattle.xv_top.specs.Guest.{live_guest, IsHeld}
@@ -44,31 +41,23 @@ IsInRange (Kick name) = Unit {0}
 IsInRange (Regs name vcpu) = Unit {0}
 IsInRange (Run turns) = (0 < turns) × (turns ≤ 100000)
 
-abbrev pub idle_of : Turned → ℕ
-idle_of Idle = 1
-idle_of Made = 0
-idle_of (Unbuilt pc) = 0
+-- the turns that a turn adds to the idle ones
+abbrev pub idle_of : Bool → ℕ
+idle_of idle = if idle then 1 else 0
 
-abbrev pub unbuilt_of : Turned → Option ℕ
-unbuilt_of Idle = None
-unbuilt_of Made = None
-unbuilt_of (Unbuilt pc) = Some pc
-
--- a run that has come to this world, and met no step that isn't built
+-- a run that has come to this world
 abbrev pub going : World → ℕ → ℕ → List Entered → RunSoFar
-going w idle work entered = record { world = w; idle = idle; work = work; entered = entered; unbuilt = None }
+going w idle work entered = record { world = w; idle = idle; work = work; entered = entered }
 
 -- the turn that a run makes after so many idle turns and lone steps, by what the manager says of it
-pub record IsTurn (before after : World) (turned : Turned) (taken idled worked : ℕ) (before_it : List Entered) : Type 0 where
+pub record IsTurn (before after : World) (is_idle : Bool) (taken idled worked : ℕ) (before_it : List Entered) : Type 0 where
   pub world : (one_turn (going before idled worked before_it) (pick before)).world ≡ after
-  pub idle : (one_turn (going before idled worked before_it) (pick before)).idle ≡ idled + idle_of turned
-  pub unbuilt : (one_turn (going before idled worked before_it) (pick before)).unbuilt ≡ unbuilt_of turned
+  pub idle : (one_turn (going before idled worked before_it) (pick before)).idle ≡ idled + idle_of is_idle
   pub work : (one_turn (going before idled worked before_it) (pick before)).work ≤ worked + taken
 
--- what the manager says of a whole run: the world, its idle turns, the pc of a step that isn't built, and
--- that the hart took at least its lone steps
-pub record IsRunEnd (run : RunSoFar) (after : World) (end : RunEnd) (taken_old taken_new : ℕ) : Type 0 where
+-- what the manager says of a whole run: the world, its idle turns, and that the hart took at least its lone
+-- steps
+pub record IsRunEnd (run : RunSoFar) (after : World) (idled taken_old taken_new : ℕ) : Type 0 where
   pub world : run.world ≡ after
-  pub idle : run.idle ≡ end.idle
-  pub unbuilt : run.unbuilt ≡ end.unbuilt
+  pub idle : run.idle ≡ idled
   pub work : taken_old + run.work ≤ taken_new

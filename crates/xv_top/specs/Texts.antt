@@ -31,10 +31,6 @@ kicked_text name = codes "kicked " ++ name ++ line_end
 unfoldable pub ran_text : ℕ → ℕ → ℕ → List ℕ
 ran_text turns idle clock = codes "ran " ++ decimal turns ++ codes " idle " ++ decimal idle ++ codes " now " ++ decimal clock ++ line_end
 
--- a step at this pc isn't built
-unfoldable pub unbuilt_text : ℕ → List ℕ
-unbuilt_text pc = codes "unbuilt " ++ hex16 pc ++ line_end
-
 -- a script that isn't built
 unfoldable pub script_text : List ℕ
 script_text = codes "script 0 unbuilt" ++ line_end

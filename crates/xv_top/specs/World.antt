@@ -1,17 +1,13 @@
 -- The world: the clock, the scheduler's counts, and the lone machines of the live guests. It has no
 -- host memory and no hart.
-use Rattle.std.specs.Prelude.{ℕ, ◌+◌, ◌-◌, ◌%◌, ◌^◌, Bool, true, false, ◌&&◌, if◌then◌else◌, List, [], ◌∷◌, ◌++◌, map, find, sum_by, Option, Some, None, slice_get}
+use Rattle.std.specs.Prelude.{ℕ, zero, suc, ◌+◌, ◌-◌, ◌%◌, ◌^◌, Bool, true, false, if◌then◌else◌, List, [], ◌∷◌, ◌++◌, map, find, sum_by, Option, Some, None}
 use Rattle.std.specs.Str.{bytes_eq}
-use Rattle.xv_lone.specs.declared.vcpu.VcpuView.{VcpuView}
-use Rattle.xv_lone.specs.declared.vcpu.HartState.{HartState}
-use Rattle.xv_lone.specs.declared.vcpu.HartState.TheVariants.{Started, Waiting, Suspended, Stopped}
 use Rattle.xv_lone.specs.declared.vcpu.GuestState.{GuestState}
 use Rattle.xv_lone.specs.declared.vcpu.GuestState.TheVariants.{Reset, Running}
-use Rattle.xv_lone.specs.declared.vcpu.TurnEnd.{TurnEnd}
-use Rattle.xv_lone.specs.declared.vcpu.TurnEnd.TheVariants.{Spent, Unbuilt}
 use Rattle.xv_lone.specs.Plan.{Plan, need}
-use Rattle.xv_lone.specs.Machine.{Machine}
-use Rattle.xv_lone.specs.Turn.{steps, ending, turn, iterate}
+use Rattle.xv_lone.specs.Machine.{Machine, guest_time}
+use Rattle.xv_lone.specs.Ready as ready
+use Rattle.xv_lone.specs.Turn.{steps}
 use Rattle.xv_lone.specs.Journal.{Entry, Turn, changed}
 
 pub record LiveGuest : Type 0 where
@@ -52,27 +48,13 @@ abbrev pub is_reset : GuestState → Bool
 is_reset Reset = true
 is_reset Running = false
 
-abbrev pub is_running : GuestState → Bool
-is_running Running = true
-is_running Reset = false
-
-abbrev pub is_started : HartState → Bool
-is_started Started = true
-is_started Waiting = false
-is_started Suspended = false
-is_started Stopped = false
-
-abbrev pub vcpu_started : Option VcpuView → Bool
-vcpu_started None = false
-vcpu_started (Some v) = is_started v.hart
-
--- whether VCPU number vcpu may have a turn
-abbrev pub is_ready : ℕ → LiveGuest → Bool
-is_ready vcpu g = is_running g.machine.state && vcpu_started (slice_get g.machine.vcpus vcpu)
+-- whether VCPU number vcpu may have a turn in this world
+abbrev pub is_ready : World → ℕ → LiveGuest → Bool
+is_ready w vcpu g = ready.is_ready vcpu (guest_time w.clock g.machine) g.machine
 
 -- whose turn it is: the first created of the guests that are ready. Each has one VCPU, number 0.
 abbrev pub pick : World → Option LiveGuest
-pick w = find (is_ready 0) w.guests
+pick w = find (is_ready w 0) w.guests
 
 -- a turn went by
 abbrev pub passed : World → World
@@ -83,53 +65,33 @@ pub record Entered : Type 0 where
   pub name : List ℕ
   pub entry : Entry
 
--- A run of turns so far: the world, its idle turns, the lone steps that were made, what was entered into
--- journals, and the pc of a step that isn't built, where one was met.
+-- a run of turns so far: the world, its idle turns, the lone steps that were made, and what was entered into
+-- journals
 pub record RunSoFar : Type 0 where
   pub world : World
   pub idle : ℕ
   pub work : ℕ
   pub entered : List Entered
-  pub unbuilt : Option ℕ
-
-abbrev pub pc_of : Option VcpuView → ℕ
-pc_of None = 0
-pc_of (Some v) = v.pc
 
 -- what a guest's turn enters
 abbrev pub turn_entered : World → LiveGuest → Entered
 turn_entered w g = record { name = g.name; entry = Turn 0 w.clock }
 
--- guest g had a turn; one that met a step which isn't built doesn't count, though its steps were made
-abbrev pub after_turn : RunSoFar → LiveGuest → TurnEnd → RunSoFar
-after_turn r g Spent = record {
-  world = passed (entered g.name (Turn 0 r.world.clock) r.world);
-  idle = r.idle;
-  work = r.work + steps g.plan 0 g.machine;
-  entered = r.entered ++ turn_entered r.world g ∷ [];
-  unbuilt = None;
-}
-after_turn r g Unbuilt = record {
-  world = entered g.name (Turn 0 r.world.clock) r.world;
-  idle = r.idle;
-  work = r.work + steps g.plan 0 g.machine;
-  entered = r.entered ++ turn_entered r.world g ∷ [];
-  unbuilt = Some (pc_of (slice_get (turn g.plan 0 g.machine).vcpus 0));
-}
-
 -- one turn of the world: the picked guest's, or an idle one
 abbrev pub one_turn : RunSoFar → Option LiveGuest → RunSoFar
 one_turn r None = record r { world = passed r.world; idle = r.idle + 1 }
-one_turn r (Some g) = after_turn r g (ending g.plan 0 g.machine)
+one_turn r (Some g) = record {
+  world = passed (entered g.name (Turn 0 r.world.clock) r.world);
+  idle = r.idle;
+  work = r.work + steps g.plan 0 (guest_time r.world.clock g.machine) g.machine;
+  entered = r.entered ++ turn_entered r.world g ∷ [];
+}
 
--- a run goes on until a step isn't built
-abbrev pub next_turn : RunSoFar → Option RunSoFar
-next_turn r = next_unless r.unbuilt
-  where
-    next_unless : Option ℕ → Option RunSoFar
-    next_unless None = Some (one_turn r (pick r.world))
-    next_unless (Some pc) = None
+-- so many turns more
+unfoldable pub run_from : ℕ → RunSoFar → RunSoFar
+run_from zero r = r
+run_from (suc n) r = run_from n (one_turn r (pick r.world))
 
 -- so many turns of the world
 unfoldable pub run_of : ℕ → World → RunSoFar
-run_of turns w = iterate next_turn turns (record { world = w; idle = 0; work = 0; entered = []; unbuilt = None })
+run_of turns w = run_from turns (record { world = w; idle = 0; work = 0; entered = [] })

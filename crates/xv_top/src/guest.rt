@@ -1,12 +1,31 @@
 //! One guest: its memory lies in one piece of host memory, and its one VCPU runs on the hart.
-ghost use Rattle.std.specs.Prelude.{◌≡◌, ◌+◌, ◌*◌, ◌%◌, ◌^◌, ◌<◌, ◌≤◌, length, List, ℕ, Option, Some, None, is_some, true, false};
+ghost use Rattle.std.specs.Prelude.{◌≡◌, ◌+◌, ◌*◌, ◌%◌, ◌^◌, ◌<◌, ◌≤◌, length, List, ℕ, Option, Some, None, is_some, map, [], true, false};
+ghost use Rattle.std.specs.List.{All};
+ghost use Rattle.xv_hart.specs.Hart.{regs_of, taken_by, trail_of};
+ghost use Rattle.xv_hart.specs.Machine.{IsFit};
+ghost use Rattle.xv_hart.specs.Step.{IsReady};
+ghost use Rattle.xv_lone.specs.Plan.{flat};
+ghost use Rattle.xv_lone.specs.Cell.{cell};
+ghost use Rattle.xv_lone.specs.Journal as journal;
+ghost use Rattle.xv_lone.specs.Machine.{guest_time};
+ghost use Rattle.xv_lone.specs.Ready as ready;
+ghost use Rattle.xv_lone.specs.Step.{lines_at};
+ghost use Rattle.xv_lone.specs.Turn as turns;
+ghost use Rattle.xv_lone.specs.Vcpu.{kicked_vcpu};
+ghost use Rattle.xv_lone.specs.declared.vcpu.GuestState.TheVariants.{Running};
+ghost use Rattle.xv_top.specs.Guest.{live_guest, lone_of, new_guest, window_of, regs_of_guest, core_of, in_turn, IsHeld};
+ghost use Rattle.xv_top.specs.World.{is_reset};
 
-use crate::hart::{Regs, Window};
-use crate::machine::Machine;
+use crate::monitor::lone_step;
 use std::sync::ledger::Ledger;
 use xv_base::GuestName;
+use xv_csr::Lines;
+use xv_hart::{Machine, Regs, Window};
 use xv_lone::{GuestState, HartState, TurnEnd, VcpuView};
 use xv_mem::{HostMem, Steps};
+
+/// The greatest number of lone steps in a turn.
+const TURN_STEPS: u32 = 1000;
 
 /// The guest physical address at which a flat guest's memory begins and its VCPU starts.
 pub const FLAT_BASE: u64 = 0x8000_0000;
@@ -25,16 +44,6 @@ pub struct Guest {
 }
 
 impl Guest {
-    ghost use Rattle.xv_lone.specs.Plan.{flat};
-    ghost use Rattle.xv_lone.specs.Cell.{cell};
-    ghost use Rattle.xv_lone.specs.Turn as turns;
-    ghost use Rattle.xv_lone.specs.Journal as journal;
-    ghost use Rattle.xv_lone.specs.Vcpu.{kicked_vcpu};
-    ghost use Rattle.xv_lone.specs.declared.vcpu.GuestState.TheVariants.{Running};
-    ghost use Rattle.xv_top.specs.Hart.{taken_by};
-    ghost use Rattle.xv_top.specs.World.{is_reset, is_ready};
-    ghost use Rattle.xv_top.specs.Guest.{live_guest, lone_of, new_guest, window_of, regs_of_guest, IsHeld};
-
     /// A guest at its create.
     pub fn new(name: GuestName, pages: u32, clock: u64) -> Guest
         ensures { result ≡ new_guest name pages clock }
@@ -55,11 +64,45 @@ impl Guest {
         matches!(self.state, GuestState::Reset)
     }
 
-    /// Whether the VCPU may have a turn.
-    pub fn is_ready(&self) -> bool
-        ensures { (bytes : List ℕ) → result ≡ is_ready 0 (live_guest self.now bytes) }
+    /// Guest time at a clock.
+    fn time(&self, clock: u64) -> u64
+        ensures { (bytes : List ℕ) → result ≡ guest_time clock (lone_of self.now bytes) }
     {
-        matches!(self.state, GuestState::Running) && matches!(self.view.hart, HartState::Started)
+        clock.wrapping_sub(self.birth)
+    }
+
+    // The interrupt lines of the VCPU at a guest time.
+    fn lines(&self, time: u64) -> Lines
+        ensures { result ≡ lines_at time self.now.view }
+    {
+        Lines {
+            timer: self.view.timer <= time,
+            external: false,
+        }
+    }
+
+    /// Whether the VCPU may have a turn at this clock: it is started, or waits and an interrupt is
+    /// pending and enabled.
+    pub fn is_ready(&self, clock: u64) -> bool
+        ensures { (bytes : List ℕ) → result
+            ≡ ready.is_ready 0 (guest_time clock (lone_of self.now bytes)) (lone_of self.now bytes) }
+    {
+        match self.state {
+            GuestState::Running => self.may_run(self.time(clock)),
+            GuestState::Reset => false,
+        }
+    }
+
+    fn may_run(&self, time: u64) -> bool
+        ensures { result ≡ ready.may_run self.now.view.hart (ready.is_called time self.now.view) }
+    {
+        match self.view.hart {
+            HartState::Started => true,
+            HartState::Waiting | HartState::Suspended => {
+                self.view.csrs.pending(self.lines(time)) != 0
+            }
+            HartState::Stopped => false,
+        }
     }
 
     fn window(&self) -> Window
@@ -73,14 +116,19 @@ impl Guest {
     }
 
     /// The registers that the hart has when the guest's turn begins.
-    fn regs(&self) -> Regs
-        ensures { result ≡ regs_of_guest self.now }
+    fn regs(&self, time: u64) -> Regs
+        ensures { result ≡ regs_of_guest self.now time }
     {
         let x = self.view.x;
         Regs {
             x,
             pc: self.view.pc,
+            user: self.view.user,
+            csrs: self.view.csrs,
             window: self.window(),
+            lines: self.lines(time),
+            time,
+            held: None,
         }
     }
 
@@ -95,7 +143,7 @@ impl Guest {
             lone_of self.now mem.new ≡ journal.loaded (flat self.now.pages) gpa bytes.now (lone_of self.now mem.old) }
         ensures size { length mem.new ≡ length mem.old }
     {
-        let Some(at) = self.window().host_of(gpa, bytes.len() as u64) else {
+        let Some(at) = self.window().host_of(bytes.len() as u64, gpa) else {
             return false;
         };
         mem.copy_in(at, bytes);
@@ -110,27 +158,90 @@ impl Guest {
         self.state = GuestState::Running;
     }
 
-    /// One turn of the VCPU on the hart.
-    pub fn turn<L: Ledger>(&mut self, machine: &mut Machine, steps: &mut Steps<L>) -> TurnEnd
+    /// One turn of the VCPU on the hart. The trail has then what each lone step began with, and nothing
+    /// else.
+    pub fn turn<L: Ledger>(
+        &mut self,
+        machine: &mut Machine,
+        clock: u64,
+        steps: &mut Steps<L>,
+    ) -> TurnEnd
         requires held { IsHeld self.old (length machine.old.mem) }
+        requires fit { IsFit machine.old }
         requires few { taken_by machine.old.hart < 2 ^ 62 }
+        requires ready { ready.is_ready 0 (guest_time clock (lone_of self.old machine.old.mem)) (lone_of self.old machine.old.mem) ≡ true }
 
         ensures machine { lone_of self.new machine.new.mem
-            ≡ turns.turn (flat self.old.pages) 0 (lone_of self.old machine.old.mem) }
-        ensures ending { result ≡ turns.ending (flat self.old.pages) 0 (lone_of self.old machine.old.mem) }
+            ≡ turns.turn (flat self.old.pages) 0 (guest_time clock (lone_of self.old machine.old.mem)) (lone_of self.old machine.old.mem) }
+        ensures ending { result
+            ≡ turns.ending (flat self.old.pages) 0 (guest_time clock (lone_of self.old machine.old.mem)) (lone_of self.old machine.old.mem) }
+        ensures trail { map core_of (trail_of machine.new.hart)
+            ≡ turns.visited (flat self.old.pages) 0 (guest_time clock (lone_of self.old machine.old.mem)) (lone_of self.old machine.old.mem) }
+        ensures window { All (λ r. r.window ≡ window_of self.old) (trail_of machine.new.hart) }
+        ensures taken { taken_by machine.new.hart ≡ taken_by machine.old.hart + length (trail_of machine.new.hart) }
+        ensures few { length (trail_of machine.new.hart) ≤ 1000 }
         ensures others { self.new ≡ record self.old { view = self.new.view } }
-        ensures memory { machine.new.mem ≡ machine.old.mem }
         ensures held { IsHeld self.new (length machine.new.mem) }
-        ensures taken { taken_by machine.old.hart
-            + turns.steps (flat self.old.pages) 0 (lone_of self.old machine.old.mem) ≤ taken_by machine.new.hart }
-        ensures few { taken_by machine.new.hart ≤ taken_by machine.old.hart + 1000 }
+        ensures size { length machine.new.mem ≡ length machine.old.mem }
+        ensures fit { IsFit machine.new }
     {
-        let regs = self.regs();
-        machine.hart.set_regs(&regs);
-        let end = machine.run(steps);
-        let Regs { x, pc, window: _ } = *machine.hart.regs();
-        self.view.x = x;
-        self.view.pc = pc;
-        end
+        let time = self.time(clock);
+        machine.hart.clear_trail();
+        machine.hart.set_regs(&self.regs(time));
+        let hart = self.run(machine, time, steps);
+        let Regs {
+            x,
+            pc,
+            user,
+            csrs,
+            ..
+        } = *machine.hart.regs();
+        self.view = VcpuView {
+            x,
+            pc,
+            user,
+            csrs,
+            timer: self.view.timer,
+            hart,
+        };
+        end_of(hart)
+    }
+
+    // Lone steps, as many as a turn may have, or up to one that leaves the VCPU waiting or stopped.
+    fn run<L: Ledger>(&self, machine: &mut Machine, time: u64, steps: &mut Steps<L>) -> HartState
+        requires held { IsHeld self.now (length machine.old.mem) }
+        requires fit { IsFit machine.old }
+        requires few { taken_by machine.old.hart < 2 ^ 62 }
+        requires begun { regs_of machine.old.hart ≡ regs_of_guest self.now time }
+        requires trail { trail_of machine.old.hart ≡ [] }
+        requires may { ready.may_run self.now.view.hart (ready.is_called time self.now.view) ≡ true }
+
+        ensures turn { in_turn self.now (regs_of machine.new.hart) machine.new.mem (trail_of machine.new.hart) result
+            ≡ turns.whole_turn (flat self.now.pages) 0 time (lone_of self.now machine.old.mem) }
+        ensures ready { IsReady (regs_of machine.new.hart) }
+        ensures window { All (λ r. r.window ≡ window_of self.now) (trail_of machine.new.hart) }
+        ensures taken { taken_by machine.new.hart ≡ taken_by machine.old.hart + length (trail_of machine.new.hart) }
+        ensures few { length (trail_of machine.new.hart) ≤ 1000 }
+        ensures size { length machine.new.mem ≡ length machine.old.mem }
+        ensures fit { IsFit machine.new }
+    {
+        for _made in 0..TURN_STEPS {
+            match lone_step(machine, steps) {
+                HartState::Started => {}
+                stopped => return stopped,
+            }
+        }
+        HartState::Started
+    }
+}
+
+/// How a turn ends that leaves its VCPU so.
+fn end_of(hart: HartState) -> TurnEnd
+    ensures { result ≡ turns.ends_as hart }
+{
+    match hart {
+        HartState::Started => TurnEnd::Spent,
+        HartState::Waiting | HartState::Suspended => TurnEnd::Waits,
+        HartState::Stopped => TurnEnd::Stops,
     }
 }

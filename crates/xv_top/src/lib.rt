@@ -4,21 +4,17 @@
 mod command;
 mod frames;
 mod guest;
-mod hart;
-mod machine;
 mod manager;
+mod monitor;
 mod printer;
 mod program;
 mod read;
 mod report;
-mod rows;
 mod script;
 mod stop;
 mod words;
 
 pub use command::Command;
-pub use hart::{Exit, Hart, Regs, Window};
-pub use machine::Machine;
 pub use program::boot;
 
 #[cfg(test)]

@@ -1,17 +1,17 @@
 //! The manager: what each command does to the guests, and what it answers.
 ghost use Rattle.std.specs.Prelude.{◌≡◌, ℕ, ◌+◌, ◌-◌, ◌*◌, ◌^◌, ◌<◌, ◌≤◌, List, [], length, Option, option_map, IfSome, true};
 ghost use Rattle.std.specs.Str.{bytes_eq};
-ghost use Rattle.xv_top.specs.Hart.{taken_by};
+ghost use Rattle.xv_hart.specs.Hart.{taken_by};
+ghost use Rattle.xv_hart.specs.Machine.{IsFit};
 
 use crate::command::Command;
 use crate::frames::frames_needed;
 use crate::guest::Guest;
-use crate::machine::Machine;
 use crate::printer::Printer;
 use crate::report;
 use std::sync::ledger::Ledger;
 use xv_base::GuestName;
-use xv_lone::TurnEnd;
+use xv_hart::Machine;
 use xv_mem::Steps;
 
 /// Frames of host memory behind which the pool begins: 16 root tables of 4 frames.
@@ -31,24 +31,6 @@ pub struct Manager {
     tick: u64,
     turns: u32,
     guest: Option<Guest>,
-}
-
-/// What one turn came to.
-#[derive(Clone, Copy)]
-pub enum Turned {
-    /// No VCPU was ready.
-    Idle,
-    /// A VCPU had its turn.
-    Made,
-    /// A VCPU met a step that isn't built, at this pc.
-    Unbuilt(u64),
-}
-
-/// What a run of turns came to: its idle turns, and the pc of a step that isn't built.
-#[derive(Clone, Copy)]
-pub struct RunEnd {
-    pub idle: u32,
-    pub unbuilt: Option<u64>,
 }
 
 impl Manager {
@@ -189,14 +171,16 @@ impl Manager {
         self.turns += 1;
     }
 
-    /// One turn of the world: the guest's, where it is ready, or an idle one.
-    fn turn<L: Ledger>(&mut self, machine: &mut Machine, steps: &mut Steps<L>) -> Turned
+    /// One turn of the world: the guest's, where it is ready, or an idle one. True where it is idle.
+    fn turn<L: Ledger>(&mut self, machine: &mut Machine, steps: &mut Steps<L>) -> bool
         requires sound { IsSound self.old machine.old.mem }
+        requires fit { IsFit machine.old }
         requires turns { self.old.turns < MOST_TURNS }
         requires few { taken_by machine.old.hart < 2 ^ 62 }
         ensures turn { (idle work : ℕ) (entered : List worlds.Entered) → IsTurn (world_of self.old machine.old.mem) (world_of self.new machine.new.mem)
             result (taken_by machine.new.hart - taken_by machine.old.hart) idle work entered }
         ensures sound { IsSound self.new machine.new.mem }
+        ensures fit { IsFit machine.new }
         ensures size { length machine.new.mem ≡ length machine.old.mem }
         ensures turns { self.new.turns ≤ self.old.turns + 1 }
         ensures taken { taken_by machine.old.hart ≤ taken_by machine.new.hart }
@@ -204,17 +188,12 @@ impl Manager {
     {
         let Some(mut guest) = self.ready() else {
             self.pass();
-            return Turned::Idle;
+            return true;
         };
-        let end = guest.turn(machine, steps);
+        guest.turn(machine, self.clock, steps);
         self.guest = Some(guest);
-        match end {
-            TurnEnd::Spent => {
-                self.pass();
-                Turned::Made
-            }
-            TurnEnd::Unbuilt => Turned::Unbuilt(guest.view.pc),
-        }
+        self.pass();
+        false
     }
 
     /// The guest whose turn it is.
@@ -222,43 +201,42 @@ impl Manager {
         ensures picked { (bytes : List ℕ) → worlds.pick (world_of self.now bytes)
             ≡ option_map (λ g. live_guest g bytes) result }
         ensures there { IfSome result (λ g. self.now.guest ≡ Some g) }
+        ensures ready { IfSome result (λ g. (bytes : List ℕ) → worlds.is_ready (world_of self.now bytes) 0 (live_guest g bytes) ≡ true) }
     {
         let guest = self.guest?;
-        if guest.is_ready() { Some(guest) } else { None }
+        if guest.is_ready(self.clock) {
+            Some(guest)
+        } else {
+            None
+        }
     }
 
-    /// Turns of the world, up to the first that meets a step which isn't built.
+    /// Turns of the world. The answer is how many were idle.
     fn make_turns<L: Ledger>(
         &mut self,
         machine: &mut Machine,
         turns: u32,
         steps: &mut Steps<L>,
-    ) -> RunEnd
+    ) -> u32
         requires sound { IsSound self.old machine.old.mem }
+        requires fit { IsFit machine.old }
         requires turns { self.old.turns + turns ≤ MOST_TURNS }
         requires few { taken_by machine.old.hart < 2 ^ 61 }
 
         ensures end { IsRunEnd (worlds.run_of turns (world_of self.old machine.old.mem)) (world_of self.new machine.new.mem)
             result (taken_by machine.old.hart) (taken_by machine.new.hart) }
         ensures sound { IsSound self.new machine.new.mem }
+        ensures fit { IsFit machine.new }
         ensures size { length machine.new.mem ≡ length machine.old.mem }
         ensures few { taken_by machine.new.hart ≤ taken_by machine.old.hart + 1000 * turns }
     {
         let mut idle = 0;
         for _made in 0..turns {
-            let turned = self.turn(machine, steps);
-            if let Turned::Unbuilt(pc) = turned {
-                return RunEnd {
-                    idle,
-                    unbuilt: Some(pc),
-                };
+            if self.turn(machine, steps) {
+                idle += 1;
             }
-            idle += turned.idle();
         }
-        RunEnd {
-            idle,
-            unbuilt: None,
-        }
+        idle
     }
 
     /// `run TURNS`
@@ -271,10 +249,12 @@ impl Manager {
     )
         requires empty { printer.old ≡ [] }
         requires sound { IsSound self.old machine.old.mem }
+        requires fit { IsFit machine.old }
         requires few { taken_by machine.old.hart < 2 ^ 61 }
         ensures answer { Gives (answers.answer (world_of self.old machine.old.mem) (Command.Run turns))
             printer.new (world_of self.new machine.new.mem) }
         ensures sound { IsSound self.new machine.new.mem }
+        ensures fit { IsFit machine.new }
         ensures size { length machine.new.mem ≡ length machine.old.mem }
         ensures work { taken_by machine.old.hart + answers.work_in (world_of self.old machine.old.mem) (Command.Run turns)
             ≤ taken_by machine.new.hart }
@@ -283,11 +263,8 @@ impl Manager {
         if MOST_TURNS - self.turns < turns {
             return report::refused(printer, b"turns");
         }
-        let end = self.make_turns(machine, turns, steps);
-        match end.unbuilt {
-            None => report::ran(printer, u64::from(turns), u64::from(end.idle), self.clock),
-            Some(pc) => report::unbuilt(printer, pc),
-        }
+        let idle = self.make_turns(machine, turns, steps);
+        report::ran(printer, u64::from(turns), u64::from(idle), self.clock);
     }
 
     #[tactic(auto, unfolding(crate::specs::Answer::work_in))]
@@ -302,10 +279,12 @@ impl Manager {
         requires empty { printer.old ≡ [] }
         requires range { IsInRange command.now }
         requires sound { IsSound self.old machine.old.mem }
+        requires fit { IsFit machine.old }
         requires few { taken_by machine.old.hart < 2 ^ 61 }
         ensures answer { Gives (answers.answer (world_of self.old machine.old.mem) command.now)
             printer.new (world_of self.new machine.new.mem) }
         ensures sound { IsSound self.new machine.new.mem }
+        ensures fit { IsFit machine.new }
         ensures size { length machine.new.mem ≡ length machine.old.mem }
         ensures work { taken_by machine.old.hart + answers.work_in (world_of self.old machine.old.mem) command.now
             ≤ taken_by machine.new.hart }
@@ -323,21 +302,6 @@ impl Manager {
             Command::Kick(name) => self.kick(name, printer),
             Command::Regs(name, vcpu) => self.regs(name, *vcpu, printer),
             Command::Run(turns) => self.run(machine, *turns, printer, steps),
-        }
-    }
-}
-
-impl Turned {
-    ghost use Rattle.xv_top.specs.Manager.{idle_of};
-
-    /// How many idle turns it was.
-    fn idle(self) -> u32
-        ensures count { result ≡ idle_of self }
-        ensures one { result ≤ 1 }
-    {
-        match self {
-            Turned::Idle => 1,
-            Turned::Made | Turned::Unbuilt(_) => 0,
         }
     }
 }

@@ -5,8 +5,8 @@ ghost use Rattle.std.specs.String.{string_bytes};
 ghost use Rattle.xv_base.specs.Fault.{Rose};
 ghost use Rattle.xv_outside.specs.Outside.{taken_with, left_after, TookFront};
 ghost use Rattle.xv_top.specs.Boot.{AreRight, ReadsAtMost, IsServed, IsRun, IsRefused, IsCutShort, IsStatus, most_read};
-ghost use Rattle.xv_top.specs.Hart.{taken_by};
-ghost use Rattle.xv_top.specs.Machine.{IsBare};
+ghost use Rattle.xv_hart.specs.Hart.{taken_by};
+ghost use Rattle.xv_hart.specs.Machine.{IsBare, IsFit};
 ghost use Rattle.xv_top.specs.Manager.{world_of, IsSound, IsInRange};
 ghost use Rattle.xv_top.specs.Script.{commands};
 ghost use Rattle.xv_top.specs.Texts.{script_text};
@@ -14,7 +14,6 @@ ghost use Rattle.xv_top.specs.Transcript.{answers, world_after, work_after, pool
 ghost use Rattle.xv_top.specs.World.{first_world};
 
 use crate::command::Command;
-use crate::machine::Machine;
 use crate::manager::Manager;
 use crate::printer::Printer;
 use crate::read::{ReadFault, read_script};
@@ -24,11 +23,15 @@ use crate::words::are_right;
 use std::alloc::Global;
 use std::marker::Brand;
 use std::sync::ledger::{Blank, Ledger};
+use xv_hart::Machine;
 use xv_mem::Steps;
 use xv_outside::{Failed, Files, Sink, Source};
 
 /// Host memory in MiB.
 const MEM_MIB: u32 = 64;
+
+/// MiB of it that are reserved.
+const NO_RESERVED: u32 = 0;
 
 /// The program: reads the script from the source, runs it over a bare machine, and puts the answers
 /// into the sink, one `put` each. The words are those after the program's name.
@@ -108,7 +111,7 @@ fn serve<S: Source, K: Sink>(
     mib: u32,
 ) -> Result<(), Stop>
     requires bare { IsBare machine.old }
-    requires some { 0 < mib }
+    requires least { 8 ≤ mib }
     requires most { mib ≤ 512 }
     ensures run { OnOk result (IsRun mib (S.left source.old) (S.left source.new)
         (K.taken sink.old) (K.taken sink.new) machine.new) }
@@ -123,7 +126,7 @@ fn serve<S: Source, K: Sink>(
     ensures source_later { S.faults source.old ≤ S.faults source.new }
     ensures sink_later { K.faults sink.old ≤ K.faults sink.new }
 {
-    let Ok(()) = machine.fit(alloc, mib) else {
+    let Ok(()) = machine.fit(alloc, mib, NO_RESERVED) else {
         return Err(Stop::NoMemory);
     };
     let Ok(mut printer) = Printer::new(alloc) else {
@@ -145,10 +148,11 @@ fn run_script<K: Sink>(
     mib: u32,
     printer: &mut Printer,
 ) -> Result<(), Stop>
-    requires some { 0 < mib }
+    requires least { 8 ≤ mib }
     requires most { mib ≤ 512 }
     requires memory { machine.old.mem ≡ replicate (4096 * (256 * mib)) 0 }
     requires taken { taken_by machine.old.hart ≡ 0 }
+    requires fit { IsFit machine.old }
     ensures served { OnOk result (IsServed mib text.now (K.taken sink.old) (K.taken sink.new) machine.new) }
     ensures refused { IsErrOf result Stop.Refused → commands text.now ≡ None }
     ensures refused_line { IsErrOf result Stop.Refused → K.taken sink.new ≡ taken_with (K.taken sink.old) script_text }
@@ -202,6 +206,7 @@ fn run_counted<K: Sink, L: Ledger>(
     requires few { length all.now ≤ 2 ^ 20 }
     requires sound { IsSound manager.old machine.old.mem }
     requires taken { taken_by machine.old.hart ≡ 0 }
+    requires fit { IsFit machine.old }
 
     ensures taken { OnOk result (K.taken sink.new
         ≡ taken_with (K.taken sink.old) (answers (world_of manager.old machine.old.mem) all.now)) }
@@ -232,6 +237,7 @@ fn run_all<K: Sink, L: Ledger>(
     requires few { length all.now ≤ 2 ^ 20 }
     requires sound { IsSound manager.old machine.old.mem }
     requires taken { taken_by machine.old.hart ≡ 0 }
+    requires fit { IsFit machine.old }
 
     ensures taken { OnOk result (K.taken sink.new
         ≡ taken_with (K.taken sink.old) (answers (world_of manager.old machine.old.mem) all.now)) }

@@ -91,17 +91,6 @@ pub fn ran(printer: &mut Printer, turns: u64, idle: u64, clock: u64)
     printer.text(b"\n");
 }
 
-/// `unbuilt PC`
-#[tactic(auto, unfolding(crate::specs::Texts::unbuilt_text))]
-pub fn unbuilt(printer: &mut Printer, pc: u64)
-    requires { printer.old ≡ [] }
-    ensures { printer.new ≡ texts.unbuilt_text pc }
-{
-    printer.text(b"unbuilt ");
-    printer.hex16(pc);
-    printer.text(b"\n");
-}
-
 fn hart_state_name(state: HartState) -> &'static [u8]
     ensures text { result.now ≡ texts.hart_state_text state }
     ensures short { length result.now ≤ 9 }

@@ -1,5 +1,5 @@
 use Rattle.std.proofs.Common.{◌∙◌, subst, refl, sym, arith}
-use Rattle.xv_top.specs.Hart.{taken_by}
+use Rattle.xv_hart.specs.Hart.{taken_by}
 use Rattle.xv_top.specs.Manager.{world_of}
 use Rattle.xv_top.proofs.FoldLemmas.{IsAnswered, answered_start, answered_more, answered_front, answered_taken, answered_world, answered_work}
 use Rattle.xv_top.proofs.program.run_all.Goals as goal
@@ -11,6 +11,7 @@ loop-command-init g c =
     record {
       answered = subst (IsAnswered c.args.all.now 0 first first taken taken) (sym c.requires.taken) (answered_start c.args.all.now first taken);
       sound = c.requires.sound;
+      fit = c.requires.fit;
       size = refl;
       few = omega (arith, c.requires.taken);
       quiet = refl;
@@ -27,6 +28,7 @@ loop-command-preserved g c =
           c.loop-command-test.true c.command-item.result c.command-item.is inv.answered
           c.bytes.result.now (c.bytes.ensures.printed ∙ c.apply.ensures.answer.text) c.apply.ensures.answer.world c.in-Ok.ensures.appended c.apply.ensures.work;
       sound = c.apply.ensures.sound;
+      fit = c.apply.ensures.fit;
       size = c.apply.ensures.size ∙ inv.size;
       few = omega (arith, c.apply.ensures.few, inv.few);
       quiet = c.in-Ok.ensures.quiet ∙ inv.quiet;

@@ -1,5 +1,5 @@
 use Rattle.std.proofs.Common.{◌∙◌, sym, ap, length}
-use Rattle.xv_top.specs.Hart.{host_of}
+use Rattle.xv_hart.specs.Window.{host_of}
 use Rattle.xv_top.specs.Guest.{lone_of}
 use Rattle.xv_top.proofs.GuestLemmas.{same_load, some_load}
 use Rattle.xv_top.proofs.guest.Guest.load.Goals as goal
@@ -10,10 +10,10 @@ returns-clause-loaded c _ =
     let n = length c.args.bytes.now in
     ap (lone_of g) c.copy_in.ensures.bytes
     ∙ same_load g c.args.mem.now c.args.bytes.now c.args.gpa c.in-Some.at c.requires.pages
-    (ap (λ w. host_of w c.args.gpa n) (sym c.window.ensures) ∙ (sym c.host_of.ensures ∙ c.in-Some.is))
+    (ap (λ w. host_of w n c.args.gpa) (sym c.window.ensures) ∙ (sym c.host_of.ensures ∙ c.in-Some.is))
 
 pub returns-clause-inside : goal.returns-clause-inside
 returns-clause-inside c _ =
     let n = length c.args.bytes.now in
     some_load c.args.self.now c.args.gpa n c.in-Some.at
-    (ap (λ w. host_of w c.args.gpa n) (sym c.window.ensures) ∙ (sym c.host_of.ensures ∙ c.in-Some.is))
+    (ap (λ w. host_of w n c.args.gpa) (sym c.window.ensures) ∙ (sym c.host_of.ensures ∙ c.in-Some.is))

@@ -1,29 +1,45 @@
-use Rattle.std.proofs.Common.{◌∙◌, sym, ap, arith}
-use Rattle.xv_lone.specs.Turn.{ending_after}
-use Rattle.xv_top.specs.Hart.{core_of}
-use Rattle.xv_top.specs.Machine.{whole_run}
-use Rattle.xv_top.proofs.GuestLemmas.{with_regs, turn_is, steps_are, ending_is}
+use Rattle.std.proofs.Common.{◌∙◌, refl, ap}
+use Rattle.std.proofs.lemmas.Bool.{and_parts}
+use Rattle.xv_hart.specs.Hart.{regs_of, trail_of}
+use Rattle.xv_lone.specs.Machine.{guest_time}
+use Rattle.xv_lone.specs.Plan.{flat}
+use Rattle.xv_lone.specs.Ready.{is_running, is_called, may_run}
+use Rattle.xv_lone.specs.Turn.{whole_turn}
+use Rattle.xv_top.specs.Guest.{lone_of, view_of, in_turn}
+use Rattle.xv_top.proofs.TurnLemmas.{turn_is, visited_are, ending_is}
 use Rattle.xv_top.proofs.guest.Guest.turn.Goals as goal
 
--- the hart begins the turn with the guest's registers
+pub run-hart-requires-clause-may : goal.run-hart-requires-clause-may
+run-hart-requires-clause-may g c =
+    let v = c.args.self.now.view in
+    ap (λ t. may_run v.hart (is_called t v)) (c.time-time.ensures c.args.machine.now.mem)
+    ∙ (and_parts (is_running c.args.self.now.state) _ c.requires.ready).1
+
 pub returns-clause-machine : goal.returns-clause-machine
 returns-clause-machine g c =
     let guest = c.args.self.now in
-    let mem = c.args.machine.now.mem in
-    let begun = c.set_regs.ensures.regs ∙ c.regs-regs.ensures in
-    let core = ap core_of c.regs.ensures ∙ (c.run-end.ensures.core ∙ ap (λ r. (whole_run r mem).core) begun) in
-    ap (λ m. with_regs guest m (core_of c.regs.result.now)) c.run-end.ensures.memory
-    ∙ (ap (with_regs guest mem) core ∙ sym (turn_is guest mem))
+    let m = lone_of guest c.args.machine.now.mem in
+    let now = c.run-hart.new.machine in
+    ap (λ r. lone_of (record guest { view = view_of guest r c.run-hart.result }) now.mem) c.regs-2.ensures
+    ∙ turn_is (flat guest.pages) (guest_time c.args.clock m) m (in_turn guest (regs_of now.hart) now.mem (trail_of now.hart) c.run-hart.result)
+    (c.run-hart.ensures.turn ∙ ap (λ t. whole_turn (flat guest.pages) 0 t m) (c.time-time.ensures c.args.machine.now.mem))
 
 pub returns-clause-ending : goal.returns-clause-ending
 returns-clause-ending g c =
     let guest = c.args.self.now in
-    let mem = c.args.machine.now.mem in
-    c.run-end.ensures.ending ∙ (ap (λ r. ending_after (whole_run r mem).made) (c.set_regs.ensures.regs ∙ c.regs-regs.ensures) ∙ sym (ending_is guest mem))
+    let m = lone_of guest c.args.machine.now.mem in
+    let now = c.run-hart.new.machine in
+    let view = view_of guest (regs_of now.hart) c.run-hart.result in
+    c.end_of.ensures
+    ∙ ending_is (flat guest.pages) (guest_time c.args.clock m) m (lone_of (record guest { view = view }) now.mem) view
+    (turn_is (flat guest.pages) (guest_time c.args.clock m) m (in_turn guest (regs_of now.hart) now.mem (trail_of now.hart) c.run-hart.result)
+    (c.run-hart.ensures.turn ∙ ap (λ t. whole_turn (flat guest.pages) 0 t m) (c.time-time.ensures c.args.machine.now.mem)))
+    refl
 
-pub returns-clause-taken : goal.returns-clause-taken
-returns-clause-taken g c =
+pub returns-clause-trail : goal.returns-clause-trail
+returns-clause-trail g c =
     let guest = c.args.self.now in
-    let mem = c.args.machine.now.mem in
-    let made = ap (λ r. (whole_run r mem).made) (c.set_regs.ensures.regs ∙ c.regs-regs.ensures) ∙ sym (steps_are guest mem) in
-    omega (arith, made, c.run-end.ensures.taken, c.set_regs.ensures.taken)
+    let m = lone_of guest c.args.machine.now.mem in
+    let now = c.run-hart.new.machine in
+    visited_are (flat guest.pages) (guest_time c.args.clock m) m (in_turn guest (regs_of now.hart) now.mem (trail_of now.hart) c.run-hart.result)
+    (c.run-hart.ensures.turn ∙ ap (λ t. whole_turn (flat guest.pages) 0 t m) (c.time-time.ensures c.args.machine.now.mem))

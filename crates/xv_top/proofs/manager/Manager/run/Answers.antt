@@ -1,8 +1,8 @@
 use Rattle.std.proofs.Common.{◌∙◌, ◌+◌, ◌<◌, ◌≤◌, refl, sym, ap, codes, arith}
 use Rattle.std.proofs.lemmas.Bool.{cond-true, cond-false, lt-ltb, le-ltb}
-use Rattle.xv_top.specs.Texts.{ran_text, unbuilt_text}
+use Rattle.xv_top.specs.Texts.{ran_text}
 use Rattle.xv_top.specs.World.{run_of}
-use Rattle.xv_top.specs.Answer.{refused, ran_answer, most_turns}
+use Rattle.xv_top.specs.Answer.{refused, most_turns}
 use Rattle.xv_top.specs.Manager.{world_of}
 use Rattle.xv_top.proofs.ManagerLemmas.{gives_by, run_is, work_is}
 use Rattle.xv_top.proofs.manager.Manager.run.Goals as goal
@@ -19,40 +19,24 @@ returns-then-self-turns-clause-work g c =
     let many : most_turns < w.turns + c.args.turns = omega (arith, c.if-self-turns.true, c.requires.sound.turns) in
     omega (arith, work_is w c.args.turns ∙ cond-true _ 0 (run_of c.args.turns w).work (lt-ltb most_turns (w.turns + c.args.turns) many))
 
-pub returns-in-None-clause-answer : goal.returns-in-None-clause-answer
-returns-in-None-clause-answer g c =
+pub returns-clause-answer : goal.returns-clause-answer
+returns-clause-answer g c =
     let w = world_of c.args.self.now c.args.machine.now.mem in
     let run = run_of c.args.turns w in
     let few : w.turns + c.args.turns ≤ most_turns = omega (arith, c.if-self-turns.false, c.requires.sound.turns) in
-    let end = c.make_turns-end.ensures.end in
+    let end = c.make_turns-idle.ensures.end in
     gives_by _ (record { text = ran_text c.args.turns run.idle run.world.clock; world = run.world; entered = run.entered })
-    (run_is w c.args.turns ∙ (cond-false _ _ _ (le-ltb most_turns (w.turns + c.args.turns) few) ∙ ap (ran_answer c.args.turns run) (end.unbuilt ∙ c.in-None.is)))
+    (run_is w c.args.turns ∙ cond-false _ _ _ (le-ltb most_turns (w.turns + c.args.turns) few))
     (record {
       text = c.ran.ensures
-          ∙ (ap (λ t. ran_text t c.from-in-None.result c.make_turns-end.new.self.clock) c.from.ensures
-          ∙ (ap (λ i. ran_text c.args.turns i c.make_turns-end.new.self.clock) (c.from-in-None.ensures ∙ sym end.idle)
+          ∙ (ap (λ t. ran_text t c.from-2.result c.make_turns-idle.new.self.clock) c.from.ensures
+          ∙ (ap (λ i. ran_text c.args.turns i c.make_turns-idle.new.self.clock) (c.from-2.ensures ∙ sym end.idle)
           ∙ ap (λ x. ran_text c.args.turns run.idle x.clock) (sym end.world)));
       world = sym end.world;
     })
 
-pub returns-in-None-clause-work : goal.returns-in-None-clause-work
-returns-in-None-clause-work g c =
+pub returns-clause-work : goal.returns-clause-work
+returns-clause-work g c =
     let w = world_of c.args.self.now c.args.machine.now.mem in
     let few : w.turns + c.args.turns ≤ most_turns = omega (arith, c.if-self-turns.false, c.requires.sound.turns) in
-    omega (arith, c.make_turns-end.ensures.end.work, work_is w c.args.turns ∙ cond-false _ 0 (run_of c.args.turns w).work (le-ltb most_turns (w.turns + c.args.turns) few))
-
-pub returns-in-Some-clause-answer : goal.returns-in-Some-clause-answer
-returns-in-Some-clause-answer g c =
-    let w = world_of c.args.self.now c.args.machine.now.mem in
-    let run = run_of c.args.turns w in
-    let few : w.turns + c.args.turns ≤ most_turns = omega (arith, c.if-self-turns.false, c.requires.sound.turns) in
-    let end = c.make_turns-end.ensures.end in
-    gives_by _ (record { text = unbuilt_text c.in-Some.pc; world = run.world; entered = run.entered })
-    (run_is w c.args.turns ∙ (cond-false _ _ _ (le-ltb most_turns (w.turns + c.args.turns) few) ∙ ap (ran_answer c.args.turns run) (end.unbuilt ∙ c.in-Some.is)))
-    (record { text = c.unbuilt.ensures; world = sym end.world })
-
-pub returns-in-Some-clause-work : goal.returns-in-Some-clause-work
-returns-in-Some-clause-work g c =
-    let w = world_of c.args.self.now c.args.machine.now.mem in
-    let few : w.turns + c.args.turns ≤ most_turns = omega (arith, c.if-self-turns.false, c.requires.sound.turns) in
-    omega (arith, c.make_turns-end.ensures.end.work, work_is w c.args.turns ∙ cond-false _ 0 (run_of c.args.turns w).work (le-ltb most_turns (w.turns + c.args.turns) few))
+    omega (arith, c.make_turns-idle.ensures.end.work, work_is w c.args.turns ∙ cond-false _ 0 (run_of c.args.turns w).work (le-ltb most_turns (w.turns + c.args.turns) few))

@@ -1,0 +1,4 @@
+pub mod AccessLemmas
+pub mod EffectLemmas
+pub mod StepLemmas
+pub mod ZeroLemmas

@@ -1,0 +1,190 @@
+//! Accesses of the hart to memory: alignment, the host address, and the bytes there.
+ghost use Rattle.std.specs.Prelude.{◌≡◌, ℕ, ◌+◌, ◌-◌, ◌*◌, ◌%◌, ◌^◌, ◌<◌, ◌≤◌};
+ghost use Rattle.std.specs.Prelude.{List, length, IfOk, IfErr};
+ghost use Rattle.xv_isa.specs.Effects.{extended, low_bytes};
+ghost use Rattle.xv_mem.specs.Bytes.{word_at, put_word};
+ghost use Rattle.xv_step.specs.Outcome.{Ask, Outcome, misaligned};
+ghost use Rattle.xv_step.specs.Memory.{accessed, translated};
+ghost use Rattle.xv_hart.specs.Action.{bytes_of};
+ghost use Rattle.xv_hart.specs.Window.{window_bus, host_of};
+ghost use Rattle.xv_hart.specs.Step.{came, exit_of, state_of, trap_of};
+ghost use Rattle.xv_hart.specs.Step.{fault_trap, guest_page_fault, IsReady};
+
+use crate::action::Width;
+use crate::exit::{Exit, HTrap};
+use crate::regs::Regs;
+use std::sync::ledger::Ledger;
+use xv_mem::{HostMem, Steps};
+use xv_pte::Kind3;
+
+/// The number in the bytes at a host address, the lowest byte first.
+pub(crate) fn read<L: Ledger>(mem: &HostMem, width: Width, at: u64, steps: &mut Steps<L>) -> u64
+    requires inside { at + bytes_of width ≤ length mem.now }
+    requires aligned { at % bytes_of width ≡ 0 }
+    ensures value { result ≡ word_at (bytes_of width) mem.now at }
+    ensures small { result < 2 ^ (8 * bytes_of width) }
+    ensures counted { steps.new ≡ steps.old + 1 }
+{
+    match width {
+        Width::W1 => mem.read8(at, steps) as u64,
+        Width::W2 => mem.read16(at, steps) as u64,
+        Width::W4 => mem.read32(at, steps) as u64,
+        Width::W8 => mem.read64(at, steps),
+    }
+}
+
+/// Stores a number in the bytes at a host address, the lowest byte first.
+pub(crate) fn write<L: Ledger>(
+    mem: &mut HostMem,
+    width: Width,
+    at: u64,
+    value: u64,
+    steps: &mut Steps<L>,
+)
+    requires inside { at + bytes_of width ≤ length mem.old }
+    requires aligned { at % bytes_of width ≡ 0 }
+    requires small { value < 2 ^ (8 * bytes_of width) }
+    ensures value { mem.new ≡ put_word (bytes_of width) mem.old at value }
+    ensures size { length mem.new ≡ length mem.old }
+    ensures counted { steps.new ≡ steps.old + 1 }
+{
+    match width {
+        Width::W1 => mem.write8(at, value as u8, steps),
+        Width::W2 => mem.write16(at, value as u16, steps),
+        Width::W4 => mem.write32(at, value as u32, steps),
+        Width::W8 => mem.write64(at, value, steps),
+    }
+}
+
+/// The low `width` bytes of a number.
+pub(crate) fn low_bytes(width: Width, value: u64) -> u64
+    ensures value { result ≡ low_bytes (bytes_of width) value }
+    ensures small { result < 2 ^ (8 * bytes_of width) }
+{
+    match width {
+        Width::W1 => value % (1 << 8),
+        Width::W2 => value % (1 << 16),
+        Width::W4 => value % (1 << 32),
+        Width::W8 => value,
+    }
+}
+
+/// A number of `width` bytes, extended to 64 bits with its sign or with zeros.
+pub(crate) fn extended(signed: bool, width: Width, value: u64) -> u64
+    requires { value < 2 ^ (8 * bytes_of width) }
+    ensures { result ≡ extended signed (bytes_of width) value }
+{
+    if signed {
+        match width {
+            Width::W1 => with_sign(value, 1 << 7),
+            Width::W2 => with_sign(value, 1 << 15),
+            Width::W4 => with_sign(value, 1 << 31),
+            Width::W8 => value,
+        }
+    } else {
+        value
+    }
+}
+
+// A number of which `sign` is the highest bit, extended with that bit.
+fn with_sign(value: u64, sign: u64) -> u64
+    requires low { sign < 2 ^ 62 }
+    requires small { value < 2 * sign }
+    ensures low { value < sign → result ≡ value }
+    ensures high { sign ≤ value → result ≡ value + (2 ^ 64 - 2 * sign) }
+{
+    if value < sign {
+        value
+    } else {
+        value + (u64::MAX - (2 * sign - 1))
+    }
+}
+
+/// The cause of a guest-page fault (Privileged Architecture 20211203, 8.6.1).
+fn guest_page_fault(kind: Kind3) -> u8
+    ensures { result ≡ guest_page_fault kind }
+{
+    match kind {
+        Kind3::Fetch => 20,
+        Kind3::Load => 21,
+        Kind3::Store => 23,
+    }
+}
+
+/// The cause of the exception that a misaligned access raises (Privileged Architecture 20211203,
+/// table 4.2).
+fn misaligned(kind: Kind3) -> u64
+    ensures { result ≡ misaligned kind }
+{
+    match kind {
+        Kind3::Fetch => 0,
+        Kind3::Load => 4,
+        Kind3::Store => 6,
+    }
+}
+
+impl Regs {
+    /// The host address of an aligned access to memory, or the exit where it leads to none. While
+    /// MODE is Bare, a virtual address is a guest physical address.
+    pub(crate) fn reach(&self, kind: Kind3, width: Width, va: u64) -> Result<u64, Exit>
+        requires ready { IsReady self.now }
+        requires fits { self.now.window.host + self.now.window.size < 2 ^ 64 }
+        requires base { self.now.window.base % 8 ≡ 0 }
+        requires host { self.now.window.host % 8 ≡ 0 }
+        requires aligned { va % bytes_of width ≡ 0 }
+        ensures inside { IfOk result (λ at.
+            at + bytes_of width ≤ self.now.window.host + self.now.window.size) }
+        ensures aligned { IfOk result (λ at. at % bytes_of width ≡ 0) }
+        ensures reaches { IfOk result (λ at.
+            (bytes : List ℕ) (lacks : ℕ → Ask) (done : ℕ → Outcome (List ℕ) ℕ) →
+            translated (window_bus self.now.window) (state_of self.now bytes) kind
+            (bytes_of width) va lacks done ≡ done at) }
+        ensures stops { IfErr result (λ exit.
+            (bytes : List ℕ) (lacks : ℕ → Ask) (done : ℕ → Outcome (List ℕ) ℕ) →
+            trap_of self.now.user (lacks va) ≡ fault_trap self.now.user kind va va 0 →
+            came exit self.now bytes ≡ exit_of self.now bytes
+            (translated (window_bus self.now.window) (state_of self.now bytes) kind
+            (bytes_of width) va lacks done)) }
+    {
+        match self.window.host_of(width.bytes() as u64, va) {
+            Some(at) => Ok(at),
+            None => Err(Exit::Trap(HTrap {
+                cause: guest_page_fault(kind),
+                tval: va,
+                htval: va / 4,
+                htinst: 0,
+                word: 0,
+                user: self.user,
+            })),
+        }
+    }
+
+    /// The host address of an access to memory, or the exit where it is misaligned, which is an
+    /// exception of the hart's own, or leads to none.
+    pub(crate) fn access(&mut self, kind: Kind3, width: Width, va: u64) -> Result<u64, Exit>
+        requires ready { IsReady self.old }
+        requires fits { self.old.window.host + self.old.window.size < 2 ^ 64 }
+        requires base { self.old.window.base % 8 ≡ 0 }
+        requires host { self.old.window.host % 8 ≡ 0 }
+        ensures stays { IfOk result (λ _. self.new ≡ self.old) }
+        ensures inside { IfOk result (λ at.
+            at + bytes_of width ≤ self.old.window.host + self.old.window.size) }
+        ensures aligned { IfOk result (λ at. at % bytes_of width ≡ 0) }
+        ensures reaches { IfOk result (λ at.
+            (bytes : List ℕ) (lacks : ℕ → Ask) (done : ℕ → Outcome (List ℕ) ℕ) →
+            accessed (window_bus self.old.window) (state_of self.old bytes) kind
+            (bytes_of width) va lacks done ≡ done at) }
+        ensures stops { IfErr result (λ exit.
+            (bytes : List ℕ) (lacks : ℕ → Ask) (done : ℕ → Outcome (List ℕ) ℕ) →
+            trap_of self.old.user (lacks va) ≡ fault_trap self.old.user kind va va 0 →
+            came exit self.new bytes ≡ exit_of self.old bytes
+            (accessed (window_bus self.old.window) (state_of self.old bytes) kind
+            (bytes_of width) va lacks done)) }
+        ensures ready { IsReady self.new }
+    {
+        if va % width.bytes() as u64 != 0 {
+            return Err(self.trap(misaligned(kind), va));
+        }
+        self.reach(kind, width, va)
+    }
+}

@@ -1,0 +1,8 @@
+# run 1
+# want x5=ffffffff80000000 x6=ffffffff80000000 x7=ffffffff80000000 x8=ffffffff80000000
+# want x9=ffffffff80000000 x10=ffffffff80000000 x11=ffffffff80000000 x12=ffffffff80000000
+# want x13=ffffffff80000000 x14=11223344ffffffff x15=112233447fffffff x16=112233447fffffff
+# want x17=1122334480000000 x18=11223344ffffffff x19=1122334480000000 x20=11223344ffffffff
+# want x21=1122334480000000 x22=11223344ffffffff
+        .include "amo.inc"
+        all     w, 0x55667788ffffffff, 0x1122334480000000
