@@ -1,1 +1,2 @@
 pub mod IterateLemmas
+mod Examples

@@ -1,0 +1,120 @@
+-- Worked rows of the lone machine, computed by the checker: journals of a guest with 64 bytes of memory.
+use Rattle.std.proofs.Common.{Bool, true, false, ◌≡◌, ℕ, zero, suc, ◌+◌, ◌-◌, ◌/◌, ◌%◌, ◌^◌, ◌++◌, List, [], ◌∷◌, map, Option, Some, None, slice_get, slice_index, refl}
+use Rattle.xv_mem.specs.Bytes.{word_at, put, put_word}
+use Rattle.xv_isa.specs.Effects.{effect_of}
+use Rattle.xv_isa.specs.Operands.{decode_of}
+use Rattle.xv_isa.specs.Rows.{row_of, rows, form_of, operation_at}
+use Rattle.xv_csr.specs.Kept.{kept_stvec, kept_sie}
+use Rattle.xv_csr.specs.Pending.{chosen_interrupt, pending, sip_of}
+use Rattle.xv_csr.specs.Reset.{reset_csrs}
+use Rattle.xv_csr.specs.Table.{csr_read, csr_written, register_of}
+use Rattle.xv_csr.specs.Trap.{entered, handler, returned, returns_to_user}
+use Rattle.xv_pte.specs.Sv39.{verdict}
+use Rattle.xv_step.specs.Step.{step}
+use Rattle.xv_lone.specs.declared.vcpu.VcpuView.{VcpuView}
+use Rattle.xv_lone.specs.declared.vcpu.HartState.{HartState}
+use Rattle.xv_lone.specs.declared.vcpu.HartState.TheVariants.{Started, Waiting, Suspended, Stopped}
+use Rattle.xv_lone.specs.Plan.{Plan, flat_base}
+use Rattle.xv_lone.specs.Machine.{Machine}
+use Rattle.xv_lone.specs.Step.{lone_step}
+use Rattle.xv_lone.specs.declared.vcpu.TurnEnd.{TurnEnd}
+use Rattle.xv_lone.specs.declared.vcpu.TurnEnd.TheVariants.{Spent, Waits, Stops}
+use Rattle.xv_lone.specs.Ready.{is_ready}
+use Rattle.xv_lone.specs.Turn.{iterate, whole_turn, turn, visited, steps, ending}
+use Rattle.xv_lone.specs.Journal.{Entry, Born, Load, Kick, Turn, replay}
+
+plan : Plan
+plan = record { regions = record { base = flat_base; size = 64 } ∷ []; starts = flat_base ∷ [] }
+
+bytes_of : ℕ → ℕ → List ℕ
+bytes_of zero n = []
+bytes_of (suc width) n = n % 256 ∷ bytes_of width (n / 256)
+
+memory_of : List ℕ → List ℕ
+memory_of [] = []
+memory_of (word ∷ words) = bytes_of 4 word ++ memory_of words
+
+-- born at clock 50, with these words, and kicked; then turns at these clocks
+journal : List ℕ → List ℕ → List Entry
+journal words clocks = Born 50 ∷ Load flat_base (memory_of words) ∷ Kick ∷ map (λ clock. Turn 0 clock) clocks
+
+hart_number : HartState → ℕ
+hart_number Started = 0
+hart_number Waiting = 1
+hart_number Suspended = 2
+hart_number Stopped = 3
+
+-- the hart state, the offset of the pc, and these registers
+vcpu_shows : List ℕ → Option VcpuView → List ℕ
+vcpu_shows ks None = []
+vcpu_shows ks (Some v) = hart_number v.hart ∷ (v.pc - flat_base) ∷ map (λ k. slice_index v.x k) ks
+
+-- scause, sepc and stval
+vcpu_trap : Option VcpuView → List ℕ
+vcpu_trap None = []
+vcpu_trap (Some v) = v.csrs.scause ∷ v.csrs.sepc ∷ v.csrs.stval ∷ []
+
+of_machine : (Option VcpuView → List ℕ) → Option Machine → List ℕ
+of_machine shows None = []
+of_machine shows (Some m) = shows (slice_get m.vcpus 0)
+
+shows : List ℕ → List ℕ → List ℕ → List ℕ
+shows words clocks ks = of_machine (vcpu_shows ks) (replay plan (journal words clocks))
+
+traps : List ℕ → List ℕ
+traps words = of_machine vcpu_trap (replay plan (journal words (50 ∷ [])))
+
+bit : Bool → ℕ
+bit true = 1
+bit false = 0
+
+end_number : TurnEnd → ℕ
+end_number Spent = 0
+end_number Waits = 1
+end_number Stops = 2
+
+-- whether VCPU 0 is ready, how its turn ends, and where each of its lone steps began; and whether it is ready
+-- after that
+turn_shows : Option Machine → List ℕ
+turn_shows None = []
+turn_shows (Some m) =
+    bit (is_ready 0 0 m) ∷ end_number (ending plan 0 0 m) ∷ steps plan 0 0 m
+    ∷ map (λ c. c.pc - flat_base) (visited plan 0 0 m) ++ bit (is_ready 0 0 (turn plan 0 0 m)) ∷ []
+
+-- x5 is the address of offset 32
+at_x5 : List ℕ → List ℕ
+at_x5 words = 0x00000297 ∷ 0x02028293 ∷ words
+
+-- the handler of traps, at offset 16, waits
+handled : ℕ → List ℕ
+handled word = 0x00000297 ∷ 0x01028293 ∷ 0x10529073 ∷ word ∷ 0x10500073 ∷ []
+
+table : List (List ℕ × List ℕ)
+table =
+    -- WFI with nothing enabled: the VCPU waits behind it
+    (shows (0x10500073 ∷ []) (50 ∷ []) [], 1 ∷ 4 ∷ [])
+    -- with a software interrupt pending and enabled, and SIE 0, it goes on
+    ∷ (shows (0x14415073 ∷ 0x10415073 ∷ 0x10500073 ∷ 0x00100393 ∷ 0x10405073 ∷ 0x10500073 ∷ []) (50 ∷ []) (7 ∷ []), 1 ∷ 24 ∷ 1 ∷ [])
+    -- with the timer's interrupt alone enabled it waits, as the compare is 2^64 - 1
+    ∷ (shows (0x02000313 ∷ 0x10431073 ∷ 0x10500073 ∷ []) (50 ∷ []) [], 1 ∷ 12 ∷ [])
+    -- a store, and a load of what it stored
+    ∷ (shows (at_x5 (0x00700313 ∷ 0x0062b023 ∷ 0x0002b383 ∷ 0x10500073 ∷ [])) (50 ∷ []) (7 ∷ []), 1 ∷ 24 ∷ 7 ∷ [])
+    -- LR.D and SC.D in one turn, and in two
+    ∷ (shows (at_x5 (0x1002b3af ∷ 0x1802b32f ∷ 0x10500073 ∷ [])) (50 ∷ []) (6 ∷ []), 1 ∷ 20 ∷ 0 ∷ [])
+    ∷ (shows (at_x5 (0x1002b3af ∷ 0x10500073 ∷ 0x1802b32f ∷ 0x10500073 ∷ [])) (50 ∷ 150 ∷ []) (6 ∷ []), 1 ∷ 24 ∷ 1 ∷ [])
+    -- ECALL in S: -2 and 0
+    ∷ (shows (0x00500593 ∷ 0x00000073 ∷ 0x10500073 ∷ []) (50 ∷ []) (10 ∷ 11 ∷ []), 1 ∷ 12 ∷ (2 ^ 64 - 2) ∷ 0 ∷ [])
+    -- time is the clock less the birth
+    ∷ (shows (0xc01023f3 ∷ 0x10500073 ∷ []) (80 ∷ []) (7 ∷ []), 1 ∷ 8 ∷ 30 ∷ [])
+    -- a turn of two steps, the second of which waits; and a guest that wasn't kicked
+    ∷ (turn_shows (replay plan (journal (0x00100393 ∷ 0x10500073 ∷ []) [])), 1 ∷ 1 ∷ 2 ∷ 0 ∷ 4 ∷ 0 ∷ [])
+    ∷ (turn_shows (replay plan (Born 0 ∷ [])), 0 ∷ 2 ∷ 0 ∷ 0 ∷ [])
+    -- a load, a store and a fetch at 0, where no memory is: causes 5, 7 and 1
+    ∷ (traps (handled 0x00003383), 5 ∷ (flat_base + 12) ∷ 0 ∷ [])
+    ∷ (traps (handled 0x00003023), 7 ∷ (flat_base + 12) ∷ 0 ∷ [])
+    ∷ (traps (handled 0x00000067), 1 ∷ 0 ∷ 0 ∷ [])
+    ∷ []
+
+the_rows : map (λ r. r.0) table ≡ map (λ r. r.1) table
+unfolding plan bytes_of memory_of journal hart_number vcpu_shows vcpu_trap of_machine shows traps bit end_number turn_shows at_x5 handled table replay ending visited steps turn whole_turn iterate lone_step step word_at put put_word decode_of row_of rows form_of operation_at effect_of chosen_interrupt pending sip_of csr_read csr_written register_of entered handler returned returns_to_user kept_stvec kept_sie reset_csrs verdict
+the_rows = refl
