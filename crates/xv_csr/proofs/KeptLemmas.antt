@@ -94,6 +94,6 @@ unfolding returned
 returned-kept csrs kept =
     record { sstatus = return_status-kept csrs.sstatus kept.sstatus; sie = kept.sie; stvec = kept.stvec; scounteren = kept.scounteren; senvcfg = kept.senvcfg; sepc = kept.sepc; satp = kept.satp }
 
-pub reset_csrs-kept : IsKept reset_csrs
+pub reset_csrs_kept : IsKept reset_csrs
 unfolding reset_csrs kept_sstatus kept_sie kept_stvec kept_scounteren kept_senvcfg kept_sepc kept_satp
-reset_csrs-kept = record { sstatus = refl; sie = refl; stvec = refl; scounteren = refl; senvcfg = refl; sepc = refl; satp = refl }
+reset_csrs_kept = record { sstatus = refl; sie = refl; stvec = refl; scounteren = refl; senvcfg = refl; sepc = refl; satp = refl }

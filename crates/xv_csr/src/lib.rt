@@ -91,9 +91,10 @@ fn register_of(number: u16) -> Option<Register>
 
 impl SCsrs {
     /// The registers after a reset: 0 in each, but for the read-only UXL = 2 of sstatus.
-    #[tactic(auto, unfolding(crate::specs::Reset::reset_csrs))]
+    #[tactic(auto, using(crate::proofs::KeptLemmas::reset_csrs_kept), unfolding(crate::specs::Reset::reset_csrs))]
     pub fn reset() -> SCsrs
-        ensures { result ≡ reset_csrs }
+        ensures values { result ≡ reset_csrs }
+        ensures keeps { IsKept result }
     {
         SCsrs {
             sstatus: 2 << 32,

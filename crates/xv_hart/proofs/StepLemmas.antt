@@ -1,11 +1,10 @@
 -- The step, part by part, and what it keeps.
-use Rattle.std.proofs.Common.{◌≡◌, ℕ, ◌%◌, List, Option, refl, ap, ◌∙◌, arith}
+use Rattle.std.proofs.Common.{◌≡◌, ℕ, ◌%◌, List, Option, ap, ◌∙◌, arith}
 use Rattle.std.proofs.lemmas.Bool.Decides.{nat_tests}
 use Rattle.xv_isa.specs.declared.instruction.Insn.{Insn}
 use Rattle.xv_csr.specs.declared.SCsrs.{SCsrs}
-use Rattle.xv_csr.specs.Kept.{IsKept, kept_sstatus, kept_sie, kept_stvec, kept_scounteren, kept_senvcfg, kept_sepc, kept_satp}
+use Rattle.xv_csr.specs.Kept.{IsKept, kept_sepc}
 use Rattle.xv_csr.specs.Pending.{chosen_interrupt}
-use Rattle.xv_csr.specs.Reset.{reset_csrs}
 use Rattle.xv_csr.specs.Trap.{handler}
 use Rattle.xv_step.specs.Outcome.{Went}
 use Rattle.xv_step.specs.State.{trapped}
@@ -28,11 +27,6 @@ handler_aligned csrs cause = grind (arith, nat_tests)
 pub sepc_aligned : (csrs : SCsrs) → IsKept csrs → csrs.sepc % 4 ≡ 0
 unfolding kept_sepc
 sepc_aligned csrs kept = omega (arith, kept.sepc)
-
--- the CSRs after a reset are as writes of them leave them
-pub reset_kept : IsKept reset_csrs
-unfolding reset_csrs kept_sstatus kept_sie kept_stvec kept_scounteren kept_senvcfg kept_sepc kept_satp
-reset_kept = record { sstatus = refl; sie = refl; stvec = refl; scounteren = refl; senvcfg = refl; sepc = refl; satp = refl }
 
 -- what a step comes to where the instruction asks for this
 abbrev pub done_by : Regs → List ℕ → ℕ → Insn → Action → HStep

@@ -18,9 +18,6 @@ use xv_mem::{HostMem, Steps};
 use xv_pte::Kind3;
 use xv_trap::chosen;
 
-/// The cause of EBREAK's exception.
-const BREAKPOINT: u64 = 3;
-
 impl Regs {
     /// One step over host memory. An interrupt that is to be taken comes before the fetch.
     pub(crate) fn step<L: Ledger>(&mut self, mem: &mut HostMem, steps: &mut Steps<L>) -> Exit
@@ -110,7 +107,7 @@ impl Regs {
             Action::FenceTranslations => self.fence_translations(word),
             Action::Continue => self.go_on(),
             Action::EnvironmentCall => self.call(),
-            Action::Breakpoint => self.trap(BREAKPOINT, self.pc),
+            Action::Breakpoint => self.breakpoint(),
             Action::SupervisorReturn => self.supervisor_return(word),
             Action::WaitForInterrupt => self.wait(word),
         }

@@ -3,7 +3,7 @@
 ghost use Rattle.std.specs.Prelude.{◌≡◌, ℕ, ◌<◌, ◌%◌, List, Some};
 ghost use Rattle.xv_isa.specs.declared.instruction.Insn.{Insn};
 ghost use Rattle.xv_isa.specs.Effects as effects;
-ghost use Rattle.xv_step.specs.Outcome.{illegal_instruction};
+ghost use Rattle.xv_step.specs.Outcome.{breakpoint, illegal_instruction};
 ghost use Rattle.xv_step.specs.Perform as perform;
 ghost use Rattle.xv_hart.specs.Action.{change_of};
 ghost use Rattle.xv_hart.specs.Window.{window_bus};
@@ -21,6 +21,8 @@ const WFI: u32 = 0x1050_0073;
 const MISALIGNED_FETCH: u64 = 0;
 
 const ILLEGAL_INSTRUCTION: u64 = 2;
+
+const BREAKPOINT: u64 = 3;
 
 const CALL_FROM_USER: u64 = 8;
 
@@ -107,6 +109,16 @@ impl Regs {
             return self.trap(CALL_FROM_USER, 0);
         }
         self.left(CALL_FROM_SUPERVISOR, 0)
+    }
+
+    /// EBREAK: an exception whose stval is the pc.
+    pub(crate) fn breakpoint(&mut self) -> Exit
+        requires ready { IsReady self.old }
+        ensures done { result ≡ Exit.Done }
+        ensures regs { self.new ≡ trapped_regs breakpoint self.old.pc self.old }
+        ensures ready { IsReady self.new }
+    {
+        self.trap(BREAKPOINT, self.pc)
     }
 
     /// SRET, which is illegal in U.

@@ -87,7 +87,6 @@ const HELD_APART: Option<Held> = Some(Held {
 });
 
 /// The CSRs before each step.
-#[tactic(auto, using(crate::proofs::StepLemmas::reset_kept))]
 fn csrs() -> SCsrs
     ensures { IsKept result }
 {

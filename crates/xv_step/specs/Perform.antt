@@ -1,5 +1,6 @@
 -- What an instruction does: its action, row by row. Every case that isn't a trap or an ask goes on at the
--- next instruction, but for jumps and SRET.
+-- next instruction, but for jumps and SRET. This profile's own: stval of an illegal instruction is its word,
+-- and of EBREAK (3.3.1) the pc; WFI (3.3.3) is left to who asks for the step.
 use Rattle.std.specs.Prelude.{ℕ, ◌-◌, ◌%◌, ◌^◌, ◌==◌, Bool, true, false, ◌&&◌, if◌then◌else◌, Option, Some, None, bit_and, bit_or}
 use Rattle.xv_isa.specs.declared.rows.Op.{Op}
 use Rattle.xv_isa.specs.declared.instruction.Insn.{Insn}

@@ -12,7 +12,7 @@ use Rattle.xv_lone.specs.Ready as ready
 use Rattle.xv_lone.specs.Journal.{Entry, Load, Turn, changed}
 use Rattle.xv_lone.specs.Turn.{turn}
 use Rattle.std.proofs.lemmas.Slice.Eq.{bytes_eq-Decides}
-use Rattle.xv_csr.proofs.KeptLemmas.{reset_csrs-kept}
+use Rattle.xv_csr.proofs.KeptLemmas.{reset_csrs_kept}
 use Rattle.xv_top.specs.declared.guest.Guest.{Guest}
 use Rattle.xv_top.specs.declared.manager.Manager.{Manager}
 use Rattle.xv_top.specs.declared.command.Command.TheVariants.{Flat, Poke, Kick, Regs, Run}
@@ -122,7 +122,7 @@ unfolding work_in
 work_is w turns = refl
 
 pub new_held : (name : List ℕ) (pages clock size : ℕ) → 0 < pages → host_base + 4096 * pages ≤ size → size < 2 ^ 45 → IsHeld (new_guest name pages clock) size
-new_held name pages clock size some fits small = record { some = some; pages = fits; small = small; pc = refl; csrs = reset_csrs-kept }
+new_held name pages clock size some fits small = record { some = some; pages = fits; small = small; pc = refl; csrs = reset_csrs_kept }
 
 -- what a turn of the guest is to the world
 module _ (m : Manager) (g h : Guest) (bytes now : List ℕ) (there : m.guest ≡ Some g) (others : h ≡ record g { view = h.view })
