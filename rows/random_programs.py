@@ -1,0 +1,145 @@
+#!/usr/bin/env python3
+"""Compares a program with reference.py on random guests: PROGRAM, a seed and how many.
+
+    python3 random_programs.py ../crates/xv_cli/out/xv_cli 1 100
+
+A guest has some 240 random words of the instruction table, and a few that are none, behind a start that
+sets a handler of traps and addresses of memory and of a hole; half of them run in U. The handler counts the
+traps, sums their causes, mixes their stval, and goes on behind an exception. Nothing of this is in the gate.
+"""
+
+import pathlib
+import random
+import struct
+import subprocess
+import sys
+
+HERE = pathlib.Path(__file__).parent
+REGISTERS = [0, 1, 2, 5, 6, 7, 8, 9, 10, 11, 12, 13, 14, 15, 16, 17, 28, 29, 30, 31]
+DATA, HOLE, CODE = 3, 4, 22         # registers that hold addresses; 20 and 21 are near DATA
+CSRS = [0x100, 0x104, 0x105, 0x106, 0x10a, 0x140, 0x141, 0x142, 0x143, 0x144, 0x180, 0xc01,
+        0x300, 0x800, 0xc00, 0xc02]     # the last four aren't there
+SELF = 0x0000006f                   # a jump to itself
+SRET, WFI = 0x10200073, 0x10500073
+
+CODE_WORDS, HANDLER, DATA_WORD, WORDS = 0xf0, 0x100, 0x200, 0x280
+
+
+def i_type(op, f3, rd, rs1, imm):
+    return (imm & 0xfff) << 20 | rs1 << 15 | f3 << 12 | rd << 7 | op
+
+
+def r_type(op, f3, f7, rd, rs1, rs2):
+    return f7 << 25 | rs2 << 20 | rs1 << 15 | f3 << 12 | rd << 7 | op
+
+
+def s_type(f3, rs1, rs2, imm):
+    imm &= 0xfff
+    return imm >> 5 << 25 | rs2 << 20 | rs1 << 15 | f3 << 12 | (imm & 31) << 7 | 0x23
+
+
+def b_type(f3, rs1, rs2, imm):
+    return ((imm >> 12 & 1) << 31 | (imm >> 5 & 63) << 25 | rs2 << 20 | rs1 << 15 | f3 << 12
+            | (imm >> 1 & 15) << 8 | (imm >> 11 & 1) << 7 | 0x63)
+
+
+def j_type(rd, imm):
+    return (imm >> 1 & 0x3ff) << 21 | (imm >> 11 & 1) << 20 | (imm >> 12 & 0xff) << 12 | rd << 7 | 0x6f
+
+
+def csr(f3, rd, rs1, number):
+    return i_type(0x73, f3, rd, rs1, number)
+
+
+def addi(rd, rs1, imm):
+    return i_type(0x13, 0, rd, rs1, imm)
+
+
+def auipc(rd):
+    return rd << 7 | 0x17
+
+
+def near():
+    """An offset, aligned more often than not."""
+    return random.choice([random.randrange(-64, 64) * 8, random.randrange(-300, 300)])
+
+
+def word(register=lambda: random.choice(REGISTERS)):
+    """One random word: the weights are the last numbers below which each kind is drawn."""
+    kind = random.random()
+    base = random.choice([DATA, DATA, DATA, HOLE])
+    if kind < .22:
+        return r_type(random.choice([0x33, 0x3b]), random.randrange(8), random.choice([0, 1, 0x20]),
+                      register(), register(), register())
+    if kind < .36:
+        amount = random.randrange(64)
+        return i_type(random.choice([0x13, 0x1b]), random.randrange(8), register(), register(),
+                      random.choice([random.randrange(4096), amount, 0x400 | amount]))
+    if kind < .40:
+        return random.randrange(1 << 20) << 12 | register() << 7 | random.choice([0x37, 0x17])
+    if kind < .52:
+        return i_type(0x03, random.randrange(8), register(), base, near())
+    if kind < .62:
+        return s_type(random.randrange(5), base, register(), near())
+    if kind < .72:
+        f5 = random.choice([2, 3, 3, 0, 1, 4, 8, 12, 16, 20, 24, 28])
+        return r_type(0x2f, random.choice([2, 3]), f5 << 2 | random.randrange(4), register(),
+                      random.choice([DATA, DATA, HOLE, 20, 21]), random.choice([0, register()]))
+    if kind < .80:
+        return b_type(random.randrange(8), register(), register(), random.choice([4, 8, 12, 6, 16]))
+    if kind < .83:
+        return j_type(register(), random.choice([4, 8, 12, 6]))
+    if kind < .85:
+        return i_type(0x67, 0, register(), random.choice([CODE, DATA]), random.choice([0, 1, 2, 4]))
+    if kind < .94:
+        return csr(random.choice([1, 2, 3, 5, 6, 7]), register(), random.choice([0, random.randrange(32)]),
+                   random.choice(CSRS))
+    if kind < .985:
+        return random.choice([0x73, 0x100073, 0x12000073, 0x12108073, 0x0f, 0x100f, SRET, WFI])
+    return random.randrange(1 << 32)
+
+
+def guest():
+    """The words of a guest: its start, its code, its handler, and data."""
+    words = [auipc(DATA), addi(DATA, DATA, 0x7ff), addi(DATA, DATA, 1),
+             random.choice([0x90000237, 0x80001237, addi(HOLE, 0, 0)]),
+             addi(20, DATA, 8), addi(21, DATA, random.choice([0, 1, 2, 4, 12]))]
+    words += [auipc(23), addi(23, 23, 4 * (HANDLER - len(words))), csr(1, 0, 23, 0x105)]
+    words += [auipc(CODE), addi(CODE, CODE, 0x100)]
+    if random.random() < .5:                                    # the rest in U
+        words += [auipc(24), addi(24, 24, 16), csr(1, 0, 24, 0x141), SRET]
+    if random.random() < .4:                                    # software interrupts enabled
+        words += [csr(6, 0, 2, 0x104)]
+    words += [word() for _ in range(CODE_WORDS - len(words))]
+    words += [SELF] * (HANDLER - len(words))
+    words += [addi(25, 25, 1), csr(2, 18, 0, 0x142), r_type(0x33, 0, 0, 26, 26, 18),
+              csr(2, 18, 0, 0x143), r_type(0x33, 4, 0, 27, 27, 18),
+              csr(2, 19, 0, 0x142), b_type(4, 19, 0, 20),       # an interrupt: its bit is cleared
+              csr(2, 18, 0, 0x141), addi(18, 18, 4), csr(1, 0, 18, 0x141), SRET,
+              csr(7, 0, 2, 0x144), SRET]
+    words += [SELF] * (DATA_WORD - len(words))
+    edges = [0, 1, 0x7fffffff, 0x80000000, 0xffffffff]
+    words += [random.choice(edges + [random.randrange(1 << 32)]) for _ in range(WORDS - len(words))]
+    return b''.join(struct.pack('<I', w) for w in words)
+
+
+def main(program, seed, count):
+    random.seed(int(seed))
+    different = 0
+    for number in range(int(count)):
+        script = ('guest flat a 1\nguest poke a 0x80000000 %s\nguest kick a\nrun %d\nguest regs a 0\n'
+                  % (guest().hex(), random.choice([1, 1, 2, 3]))).encode()
+        answers = [subprocess.run(command, input=script, capture_output=True).stdout
+                   for command in ([program, 'boot'], [sys.executable, str(HERE / 'reference.py')])]
+        if answers[0] != answers[1]:
+            different += 1
+            print('guest %d of seed %s: the answers differ; its script is' % (number, seed))
+            print(script.decode(), end='')
+    print('%d of %s random guests differ' % (different, count))
+    return 1 if different else 0
+
+
+if __name__ == '__main__':
+    if len(sys.argv) != 4:
+        sys.exit(__doc__)
+    sys.exit(main(*sys.argv[1:]))
