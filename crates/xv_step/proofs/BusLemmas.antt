@@ -15,7 +15,7 @@ use Rattle.xv_pte.specs.declared.access.Kind3.{Kind3}
 use Rattle.xv_pte.specs.Sv39.{Verdict, Address, PageFault, NoEntry, Reader, verdict, asked}
 use Rattle.xv_pte.proofs.ReadersAgree.{Agree, verdict_same}
 use Rattle.xv_step.specs.Bus.{Bus, Spot, reader}
-use Rattle.xv_step.specs.State.{Held, State, set, at_pc, view, trapped}
+use Rattle.xv_step.specs.State.{Held, State, held_as, set, at_pc, view, trapped}
 use Rattle.xv_step.specs.Outcome.{Ask, Target, Plain, Call, Outcome, Went, Left, misaligned, page_fault, misaligned_fetch, illegal_instruction, breakpoint, call_from_user}
 use Rattle.xv_step.specs.Memory as memory
 use Rattle.xv_step.specs.Perform as perform
@@ -39,8 +39,7 @@ module _ {MA PA MB PB : Type 0} (a : Bus MA PA) (b : Bus MB PB) (seen_memory : M
   seen_spot spot = record { place = seen_place spot.place; writable = spot.writable }
 
   abbrev pub seen_held : Option (Held PB) → Option (Held PA)
-  seen_held None = None
-  seen_held (Some held) = Some (record { place = seen_place held.place; width = held.width })
+  seen_held held = held_as seen_place held
 
   abbrev pub seen : State MB PB → State MA PA
   seen s = record { x = s.x; pc = s.pc; user = s.user; csrs = s.csrs; held = seen_held s.held; memory = seen_memory s.memory }

@@ -1,5 +1,5 @@
 -- The state of a hart between two steps.
-use Rattle.std.specs.Prelude.{ℕ, ◌==◌, Bool, false, if◌then◌else◌, List, Option, slice_set}
+use Rattle.std.specs.Prelude.{ℕ, ◌==◌, Bool, false, if◌then◌else◌, List, Option, Some, None, slice_set}
 use Rattle.xv_csr.specs.declared.SCsrs.{SCsrs}
 use Rattle.xv_csr.specs.Bits.{has_bit}
 use Rattle.xv_csr.specs.Trap.{entered, handler}
@@ -9,6 +9,11 @@ use Rattle.xv_pte.specs.declared.access.View.{View}
 pub record Held (Place : Type 0) : Type 0 where
   pub place : Place
   pub width : ℕ
+
+-- a reservation, if there is one, with its place in another form
+abbrev pub held_as : {P Q : Type 0} → (P → Q) → Option (Held P) → Option (Held Q)
+held_as shown None = None
+held_as shown (Some held) = Some (record { place = shown held.place; width = held.width })
 
 -- 32 integer registers, the pc, whether the mode is U, the supervisor CSRs, the reservation, and memory
 pub record State (Memory Place : Type 0) : Type 0 where

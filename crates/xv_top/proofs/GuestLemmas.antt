@@ -1,10 +1,10 @@
 -- A guest's memory through its window is the memory of its lone machine, so that both step alike.
-use Rattle.std.proofs.Common.{◌≡◌, ℕ, ◌+◌, ◌-◌, ◌*◌, ◌≤◌, Bool, true, false, ◌&&◌, eqb, leb, cond, List, [], ◌∷◌, length, Option, Some, None, option_map, is_some, refl, sym, ap, ◌∙◌, arith}
+use Rattle.std.proofs.Common.{◌≡◌, inl, inr, ℕ, ◌+◌, ◌-◌, ◌*◌, ◌≤◌, Bool, true, false, ◌&&◌, eqb, leb, cond, List, [], ◌∷◌, length, Option, Some, None, option_map, is_some, refl, sym, ap, ◌∙◌, arith}
 use Rattle.std.proofs.lemmas.Bool.{and_parts, leb-true}
 use Rattle.std.proofs.lemmas.Bool.Decides.{nat_tests}
 use Rattle.xv_mem.specs.Bytes.{range, put, put_word, word_at}
-use Rattle.xv_mem.proofs.Puts.{range-put_inside}
-use Rattle.xv_mem.proofs.Words.{word_at-range, range-put_word_inside, length-put_word}
+use Rattle.xv_mem.proofs.Puts.{range-put_inside, range-put_outside, length-put}
+use Rattle.xv_mem.proofs.Words.{word_at-range, range-put_word_inside, range-put_word_outside, length-put_word}
 use Rattle.xv_step.specs.Bus.{Spot}
 use Rattle.xv_step.proofs.BusLemmas.{AreJoined}
 use Rattle.xv_hart.specs.Window.{window_bus, host_of}
@@ -14,7 +14,7 @@ use Rattle.xv_lone.specs.Cell.{Cell, Memory, cell}
 use Rattle.xv_lone.specs.Step.{lone_bus}
 use Rattle.xv_lone.specs.Journal.{loaded, stored_at}
 use Rattle.xv_top.specs.declared.guest.Guest.{Guest}
-use Rattle.xv_top.specs.Guest.{lone_of, host_base, window_of, cell_at}
+use Rattle.xv_top.specs.Guest.{lone_of, host_base, host_end, window_of, cell_at, SameElsewhere}
 
 -- whether n bytes at a guest physical address lie in the guest's memory
 abbrev within : Guest → ℕ → ℕ → Bool
@@ -31,14 +31,31 @@ within_fits g a n h =
 abbrev pub seen_memory : Guest → List ℕ → Memory
 seen_memory g bytes = range bytes host_base (4096 * g.pages) ∷ []
 
--- host bytes that have the guest's memory
-abbrev pub IsGoodFor : Guest → List ℕ → Type 0
-IsGoodFor g bytes = host_base + 4096 * g.pages ≤ length bytes
+-- host bytes that have the guest's memory, and outside of it are those of the turn's start
+pub record IsGoodFor (g : Guest) (first bytes : List ℕ) : Type 0 where
+  pub fits : host_end g ≤ length bytes
+  pub elsewhere : SameElsewhere g first bytes
+
+pub good_first : (g : Guest) (first : List ℕ) → host_end g ≤ length first → IsGoodFor g first first
+good_first g first fits = record { fits = fits; elsewhere = record { size = refl; below = refl; above = refl } }
+
+put_elsewhere : (g : Guest) (first bytes : List ℕ) (width at value : ℕ) → IsGoodFor g first bytes → host_base ≤ at → at + width ≤ host_end g → IsGoodFor g first (put_word width bytes at value)
+put_elsewhere g first bytes width at value good from to =
+    let same = length-put_word width bytes at value (omega (arith, to, good.fits)) in
+    let inside : at + width ≤ length bytes = omega (arith, to, good.fits) in
+    record {
+      fits = omega (arith, same, good.fits);
+      elsewhere = record {
+        size = same ∙ good.elsewhere.size;
+        below = range-put_word_outside width bytes at value 0 host_base inside (omega (arith, good.fits)) (inl (omega (arith, from))) ∙ good.elsewhere.below;
+        above = range-put_word_outside width bytes at value (host_end g) (length first - host_end g) inside (omega (arith, good.fits, good.elsewhere.size)) (inr to) ∙ good.elsewhere.above;
+      };
+    }
 
 -- so many bytes from a host address on are the guest's
 pub record StandsIn (g : Guest) (width at : ℕ) : Type 0 where
   pub first : host_base ≤ at
-  pub last : at + width ≤ host_base + 4096 * g.pages
+  pub last : at + width ≤ host_end g
 
 back : (offset : ℕ) → offset ≡ host_base + offset - host_base
 back offset = omega arith
@@ -64,8 +81,8 @@ spot_found true at spot e = (refl, some_place e)
     some_place e = cc
 spot_found false at spot e = cc
 
-pub joined : (g : Guest) → AreJoined (lone_bus (flat g.pages)) (window_bus (window_of g)) (seen_memory g) cell_at (IsGoodFor g) (StandsIn g)
-joined g = record {
+pub joined : (g : Guest) (first : List ℕ) → AreJoined (lone_bus (flat g.pages)) (window_bus (window_of g)) (seen_memory g) cell_at (IsGoodFor g first) (StandsIn g)
+joined g first = record {
   find = λ width gpa. found_same (within g gpa width) (gpa - flat_base);
   stands = λ width gpa spot found.
       let there = spot_found (within g gpa width) (host_base + (gpa - flat_base)) spot found in
@@ -79,11 +96,9 @@ joined g = record {
       let offset : ℕ = at - host_base in
       let e : host_base + offset ≡ at = omega (arith, stands.first) in
       ap (λ r. r ∷ [])
-      (sym (range-put_word_inside width bytes host_base (4096 * g.pages) offset value (omega (arith, stands.first, stands.last)) good)
+      (sym (range-put_word_inside width bytes host_base (4096 * g.pages) offset value (omega (arith, stands.first, stands.last)) good.fits)
       ∙ ap (λ n. range (put_word width bytes n value) host_base (4096 * g.pages)) e);
-  good = λ bytes width at value good stands.
-      let same = length-put_word width bytes at value (omega (arith, stands.last, good)) in
-      omega (arith, same, good);
+  good = λ bytes width at value good stands. put_elsewhere g first bytes width at value good stands.first stands.last;
   same = λ held width one other stands others. same_place one other stands.first others.first;
 }
   where
@@ -105,6 +120,20 @@ same_load g mem bytes gpa at fits found =
     ap (λ a. lone_of g (put mem a bytes)) (sym there.1)
     ∙ (ap (λ r. record (lone_of g mem) { memory = r ∷ [] }) (range-put_inside mem host_base (4096 * g.pages) offset bytes (within_fits g gpa (length bytes) there.0) fits)
     ∙ sym (ap stored there.0))
+
+-- and no other host byte changes
+pub load_elsewhere : (g : Guest) (mem bytes : List ℕ) (gpa at : ℕ) → host_end g ≤ length mem → host_of (window_of g) (length bytes) gpa ≡ Some at → SameElsewhere g mem (put mem at bytes)
+load_elsewhere g mem bytes gpa at fits found =
+    let offset : ℕ = gpa - flat_base in
+    let there = found_there (within g gpa (length bytes)) (host_base + offset) at found in
+    let inside = within_fits g gpa (length bytes) there.0 in
+    let last : at + length bytes ≤ host_end g = omega (arith, there.1, inside) in
+    let within_memory : at + length bytes ≤ length mem = omega (arith, last, fits) in
+    record {
+      size = length-put mem at bytes within_memory;
+      below = range-put_outside mem at bytes 0 host_base within_memory (omega (arith, fits)) (inl (omega (arith, there.1)));
+      above = range-put_outside mem at bytes (host_end g) (length mem - host_end g) within_memory (omega (arith, fits)) (inr last);
+    }
 
 -- where the window leads, the bytes have a cell
 pub some_load : (g : Guest) (gpa n at : ℕ) → host_of (window_of g) n gpa ≡ Some at → is_some (cell (flat g.pages) gpa n) ≡ true

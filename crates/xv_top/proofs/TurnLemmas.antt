@@ -1,7 +1,7 @@
 -- A turn of the hart and its monitor over host bytes, seen as the turn of the guest's lone machine.
-use Rattle.std.proofs.Common.{◌≡◌, ℕ, ◌+◌, ◌-◌, ◌<◌, ◌≤◌, true, false, List, [], ◌∷◌, ◌++◌, map, length, slice_get, Option, Some, None, option_map, subst, refl, sym, ap, ◌∙◌, arith}
+use Rattle.std.proofs.Common.{◌≡◌, ℕ, ◌+◌, ◌-◌, ◌<◌, ◌≤◌, true, false, List, [], ◌∷◌, ◌++◌, map, length, slice_get, Some, None, option_map, subst, refl, sym, ap, ◌∙◌, arith}
 use Rattle.std.proofs.lemmas.Bool.{cond-false}
-use Rattle.xv_step.specs.State.{Held, State}
+use Rattle.xv_step.specs.State.{State, held_as}
 use Rattle.xv_step.specs.Outcome.{Outcome, Entry, Target, Plain, Call, Wait, Went, Left}
 use Rattle.xv_step.specs.Perform.{Inputs}
 use Rattle.xv_step.specs.Step.{step}
@@ -20,33 +20,29 @@ use Rattle.xv_lone.specs.declared.vcpu.VcpuView.{VcpuView}
 use Rattle.xv_lone.specs.Turn.{InTurn, Core, begin, woken, one_more, is_started, iterate, whole_turn, turn, visited, steps, ending, ending_of, ends_as}
 use Rattle.xv_lone.proofs.IterateLemmas.{iterate_over, iterate_more, iterate_none}
 use Rattle.xv_top.specs.declared.guest.Guest.{Guest}
-use Rattle.xv_top.specs.Guest.{lone_of, window_of, cell_at, held_cell, view_of, core_of, in_turn, regs_of_guest}
+use Rattle.xv_top.specs.Guest.{SameElsewhere, host_end, lone_of, window_of, cell_at, view_of, core_of, in_turn, regs_of_guest}
 use Rattle.xv_top.specs.Monitor.{shows, host_after}
-use Rattle.xv_top.proofs.GuestLemmas.{seen_memory, IsGoodFor, StandsIn, joined}
+use Rattle.xv_top.proofs.GuestLemmas.{seen_memory, IsGoodFor, StandsIn, joined, good_first}
 
-held_same : (g : Guest) (held : Option (Held ℕ)) → buses.seen_held (lone_bus (flat g.pages)) (window_bus (window_of g)) (seen_memory g) cell_at (IsGoodFor g) (StandsIn g) (joined g) held ≡ held_cell held
-held_same g None = refl
-held_same g (Some held) = refl
-
-module _ (g : Guest) (t : ℕ) where
+module _ (g : Guest) (t : ℕ) (first : List ℕ) where
   -- a state of the hart over host bytes, as one of the lone machine
   abbrev seen : State (List ℕ) ℕ → State Memory Cell
-  seen s = buses.seen (lone_bus (flat g.pages)) (window_bus (window_of g)) (seen_memory g) cell_at (IsGoodFor g) (StandsIn g) (joined g) s
+  seen s = buses.seen (lone_bus (flat g.pages)) (window_bus (window_of g)) (seen_memory g) cell_at (IsGoodFor g first) (StandsIn g) (joined g first) s
 
   abbrev pub IsGood : State (List ℕ) ℕ → Type 0
-  IsGood s = buses.IsGood (lone_bus (flat g.pages)) (window_bus (window_of g)) (seen_memory g) cell_at (IsGoodFor g) (StandsIn g) (joined g) s
+  IsGood s = buses.IsGood (lone_bus (flat g.pages)) (window_bus (window_of g)) (seen_memory g) cell_at (IsGoodFor g first) (StandsIn g) (joined g first) s
 
   abbrev IsOne : Outcome Memory Cell → Outcome (List ℕ) ℕ → Type 0
-  IsOne a b = buses.IsOne (lone_bus (flat g.pages)) (window_bus (window_of g)) (seen_memory g) cell_at (IsGoodFor g) (StandsIn g) (joined g) a b
+  IsOne a b = buses.IsOne (lone_bus (flat g.pages)) (window_bus (window_of g)) (seen_memory g) cell_at (IsGoodFor g first) (StandsIn g) (joined g first) a b
 
   abbrev seen_after : After (List ℕ) ℕ → After Memory Cell
   seen_after a = record { state = seen a.state; hart = a.hart }
 
   abbrev seen_outcome : Outcome (List ℕ) ℕ → Outcome Memory Cell
-  seen_outcome o = buses.seen_outcome (lone_bus (flat g.pages)) (window_bus (window_of g)) (seen_memory g) cell_at (IsGoodFor g) (StandsIn g) (joined g) o
+  seen_outcome o = buses.seen_outcome (lone_bus (flat g.pages)) (window_bus (window_of g)) (seen_memory g) cell_at (IsGoodFor g first) (StandsIn g) (joined g first) o
 
   abbrev LeavesGood : Outcome (List ℕ) ℕ → Type 0
-  LeavesGood o = buses.LeavesGood (lone_bus (flat g.pages)) (window_bus (window_of g)) (seen_memory g) cell_at (IsGoodFor g) (StandsIn g) (joined g) o
+  LeavesGood o = buses.LeavesGood (lone_bus (flat g.pages)) (window_bus (window_of g)) (seen_memory g) cell_at (IsGoodFor g first) (StandsIn g) (joined g first) o
 
   -- ---- the answers
 
@@ -72,7 +68,7 @@ module _ (g : Guest) (t : ℕ) where
   bus_after inputs s = after inputs s (step (window_bus (window_of g)) inputs s)
 
   one : (inputs : Inputs) (s : State (List ℕ) ℕ) → IsGood s → IsOne (step (lone_bus (flat g.pages)) inputs (seen s)) (step (window_bus (window_of g)) inputs s)
-  one inputs s good = buses.step_is_one (lone_bus (flat g.pages)) (window_bus (window_of g)) (seen_memory g) cell_at (IsGoodFor g) (StandsIn g) (joined g) s good inputs
+  one inputs s good = buses.step_is_one (lone_bus (flat g.pages)) (window_bus (window_of g)) (seen_memory g) cell_at (IsGoodFor g first) (StandsIn g) (joined g first) s good inputs
 
   lone_after : (inputs : Inputs) (s : State (List ℕ) ℕ) → IsGood s → after inputs (seen s) (step (lone_bus (flat g.pages)) inputs (seen s)) ≡ seen_after (bus_after inputs s)
   lone_after inputs s good =
@@ -92,17 +88,13 @@ module _ (g : Guest) (t : ℕ) where
 
   module _ (r next : Regs) (bytes now : List ℕ) (hart : HartState) (on : IsOn r bytes) (shown : shows hart next now ≡ host_after r bytes) where
     lone_state : State Memory Cell
-    lone_state = record { x = r.x; pc = r.pc; user = r.user; csrs = r.csrs; held = held_cell (held_of r.held); memory = seen_memory g bytes }
-
-    seen_is : seen (state_of r bytes) ≡ lone_state
-    unfolding lone_state
-    seen_is = ap (λ held. record { x = r.x; pc = r.pc; user = r.user; csrs = r.csrs; held = held; memory = seen_memory g bytes }) (held_same g (held_of r.held))
+    lone_state = record { x = r.x; pc = r.pc; user = r.user; csrs = r.csrs; held = held_as cell_at (held_of r.held); memory = seen_memory g bytes }
 
     after_is : after (inputs_at t g.view) lone_state (step (lone_bus (flat g.pages)) (inputs_at t g.view) lone_state) ≡ seen_after (shows hart next now)
+    unfolding lone_state
     after_is =
-        ap (λ s. after (inputs_at t g.view) s (step (lone_bus (flat g.pages)) (inputs_at t g.view) s)) (sym seen_is)
-        ∙ (lone_after (inputs_at t g.view) (state_of r bytes) on.good
-        ∙ ap seen_after (host_is r bytes on ∙ sym shown))
+        lone_after (inputs_at t g.view) (state_of r bytes) on.good
+        ∙ ap seen_after (host_is r bytes on ∙ sym shown)
 
     good_after : IsGood (state_of next now)
     good_after =
@@ -110,16 +102,14 @@ module _ (g : Guest) (t : ℕ) where
         (after_good (inputs_at t g.view) (state_of r bytes) (step (window_bus (window_of g)) (inputs_at t g.view) (state_of r bytes)) on.good (one (inputs_at t g.view) (state_of r bytes) on.good).good)
 
     abbrev running : Running
-    running = record { machine = lone_of (record g { view = view_of g r Started }) bytes; held = held_cell (held_of r.held) }
+    running = record { machine = lone_of (record g { view = view_of g r Started }) bytes; held = held_as cell_at (held_of r.held) }
 
     abbrev then_running : Running
-    then_running = record { machine = lone_of (record g { view = view_of g next hart }) now; held = held_cell (held_of next.held) }
+    then_running = record { machine = lone_of (record g { view = view_of g next hart }) now; held = held_as cell_at (held_of next.held) }
 
     stepped_is : stepped (flat g.pages) 0 t running (view_of g r Started) ≡ then_running
     unfolding lone_state
-    stepped_is =
-        ap (put_back 0 running (view_of g r Started)) after_is
-        ∙ ap (λ held. record then_running { held = held }) (held_same g (held_of next.held))
+    stepped_is = ap (put_back 0 running (view_of g r Started)) after_is
 
     lone_step_is : lone_step (flat g.pages) 0 t running ≡ Some then_running
     unfolding lone_step
@@ -161,37 +151,40 @@ module _ (g : Guest) (t : ℕ) where
       ap (λ hart. record { running = record { machine = lone_of (record g { view = record g.view { hart = hart } }) bytes; held = None }; begun = [] }) (woken_is g.view.hart called may)
 
   -- so many steps of the turn are made, and the rest follow
-  pub record IsTurning (first : List ℕ) (made : ℕ) (r : Regs) (bytes : List ℕ) (trail : List Regs) : Type 0 where
+  pub record IsTurning (made : ℕ) (r : Regs) (bytes : List ℕ) (trail : List Regs) : Type 0 where
     pub whole : iterate (one_more (flat g.pages) 0 t) (1000 - made) (in_turn g r bytes trail Started) ≡ whole_turn (flat g.pages) 0 t (lone_of g first)
     pub on : IsOn r bytes
 
-  pub turning_starts : (first : List ℕ) (called : _) → may_run g.view.hart called ≡ true → IsGoodFor g first → IsTurning first 0 (regs_of_guest g t) first []
+  pub turning_starts : (called : _) → may_run g.view.hart called ≡ true → host_end g ≤ length first → IsTurning 0 (regs_of_guest g t) first []
   unfolding whole_turn
-  turning_starts first called may good = record {
+  turning_starts called may fits = record {
     whole = ap (iterate (one_more (flat g.pages) 0 t) 1000) (sym (begins first called may));
-    on = record { inputs = refl; window = refl; good = record { memory = good; held = tt {0} } };
+    on = record { inputs = refl; window = refl; good = record { memory = good_first g first fits; held = tt {0} } };
   }
 
-  module _ (first : List ℕ) (made : ℕ) (r next : Regs) (bytes now : List ℕ) (trail : List Regs) (hart : HartState) (more : made < 1000)
-      (turning : IsTurning first made r bytes trail) (shown : shows hart next now ≡ host_after r bytes) where
+  module _ (made : ℕ) (r next : Regs) (bytes now : List ℕ) (trail : List Regs) (hart : HartState) (more : made < 1000)
+      (turning : IsTurning made r bytes trail) (shown : shows hart next now ≡ host_after r bytes) where
     whole_after : iterate (one_more (flat g.pages) 0 t) (1000 - (made + 1)) (in_turn g next now (trail ++ r ∷ []) hart) ≡ whole_turn (flat g.pages) 0 t (lone_of g first)
     whole_after =
         sym (iterate_more (one_more (flat g.pages) 0 t) (1000 - (made + 1)) (1000 - made) (in_turn g r bytes trail Started) (in_turn g next now (trail ++ r ∷ []) hart) (one_more_is r next bytes now hart turning.on shown trail) (omega arith))
         ∙ turning.whole
 
-    pub turning_goes_on : hart ≡ Started → inputs_of next ≡ inputs_of r → next.window ≡ r.window → IsTurning first (made + 1) next now (trail ++ r ∷ [])
+    pub turning_goes_on : hart ≡ Started → inputs_of next ≡ inputs_of r → next.window ≡ r.window → IsTurning (made + 1) next now (trail ++ r ∷ [])
     turning_goes_on started inputs window = record {
       whole = ap (λ h. iterate (one_more (flat g.pages) 0 t) (1000 - (made + 1)) (in_turn g next now (trail ++ r ∷ []) h)) (sym started) ∙ whole_after;
       on = is_on_after r next bytes now hart turning.on shown inputs window;
     }
+
+    pub stays_elsewhere : SameElsewhere g first now
+    stays_elsewhere = (good_after r next bytes now hart turning.on shown).memory.elsewhere
 
     pub turning_stops : (hart ≡ Started → ⊥) → in_turn g next now (trail ++ r ∷ []) hart ≡ whole_turn (flat g.pages) 0 t (lone_of g first)
     turning_stops stopped =
         sym (iterate_over (one_more (flat g.pages) 0 t) (1000 - (made + 1)) (in_turn g next now (trail ++ r ∷ []) hart) (no_more next now (trail ++ r ∷ []) hart stopped))
         ∙ whole_after
 
-  pub turning_ends : (first : List ℕ) (made : ℕ) (r : Regs) (bytes : List ℕ) (trail : List Regs) → 1000 ≤ made → IsTurning first made r bytes trail → in_turn g r bytes trail Started ≡ whole_turn (flat g.pages) 0 t (lone_of g first)
-  turning_ends first made r bytes trail all turning =
+  pub turning_ends : (made : ℕ) (r : Regs) (bytes : List ℕ) (trail : List Regs) → 1000 ≤ made → IsTurning made r bytes trail → in_turn g r bytes trail Started ≡ whole_turn (flat g.pages) 0 t (lone_of g first)
+  turning_ends made r bytes trail all turning =
       sym (iterate_none (one_more (flat g.pages) 0 t) (in_turn g r bytes trail Started))
       ∙ (ap (λ n. iterate (one_more (flat g.pages) 0 t) n (in_turn g r bytes trail Started)) (let e : 0 ≡ 1000 - made = omega arith in e)
       ∙ turning.whole)

@@ -1,5 +1,5 @@
 -- What the guest in the program is: a lone machine, over host memory.
-use Rattle.std.specs.Prelude.{ℕ, ◌≡◌, ◌+◌, ◌-◌, ◌*◌, ◌%◌, ◌^◌, ◌<◌, ◌≤◌, List, [], ◌∷◌, map, Option, Some, None}
+use Rattle.std.specs.Prelude.{ℕ, ◌≡◌, ◌+◌, ◌-◌, ◌*◌, ◌%◌, ◌^◌, ◌<◌, ◌≤◌, List, [], ◌∷◌, length, map, None}
 use Rattle.xv_mem.specs.Bytes.{range}
 use Rattle.xv_lone.specs.declared.vcpu.GuestState.TheVariants.{Reset}
 use Rattle.xv_lone.specs.Plan.{flat, flat_base}
@@ -11,7 +11,7 @@ use Rattle.xv_lone.specs.Turn.{Core, InTurn}
 use Rattle.xv_lone.specs.declared.vcpu.VcpuView.{VcpuView}
 use Rattle.xv_lone.specs.declared.vcpu.HartState.{HartState}
 use Rattle.xv_csr.specs.Kept.{IsKept}
-use Rattle.xv_step.specs.State.{Held}
+use Rattle.xv_step.specs.State.{held_as}
 use Rattle.xv_hart.specs.declared.window.Window.{Window}
 use Rattle.xv_hart.specs.declared.regs.Regs.{Regs}
 use Rattle.xv_hart.specs.Step.{held_of}
@@ -63,14 +63,10 @@ view_of g r hart = record g.view { x = r.x; pc = r.pc; user = r.user; csrs = r.c
 abbrev pub cell_at : ℕ → Cell
 cell_at at = record { region = 0; offset = at - host_base }
 
-abbrev pub held_cell : Option (Held ℕ) → Option (Held Cell)
-held_cell None = None
-held_cell (Some held) = Some (record { place = cell_at held.place; width = held.width })
-
 -- the guest's lone machine within its turn, by what the hart shows and what its trail has
 abbrev pub in_turn : Guest → Regs → List ℕ → List Regs → HartState → InTurn
 in_turn g r bytes trail hart = record {
-  running = record { machine = lone_of (record g { view = view_of g r hart }) bytes; held = held_cell (held_of r.held) };
+  running = record { machine = lone_of (record g { view = view_of g r hart }) bytes; held = held_as cell_at (held_of r.held) };
   begun = map core_of trail;
 }
 
@@ -78,10 +74,21 @@ in_turn g r bytes trail hart = record {
 abbrev pub new_guest : List ℕ → ℕ → ℕ → Guest
 new_guest name pages clock = record { name = name; pages = pages; view = reset_vcpu flat_base; state = Reset; birth = clock }
 
--- the guest's memory lies in a host memory of so many bytes, its pc is a multiple of 4, and its CSRs hold what a write keeps
+-- the guest's memory lies in a host memory of so many bytes, its pc is a multiple of 4, and its CSRs hold what
+-- writes keep
 pub record IsHeld (g : Guest) (size : ℕ) : Type 0 where
   pub some : 0 < g.pages
   pub pages : host_base + 4096 * g.pages ≤ size
   pub small : size < 2 ^ 45
   pub pc : g.view.pc % 4 ≡ 0
   pub csrs : IsKept g.view.csrs
+
+-- where the guest's memory ends
+abbrev pub host_end : Guest → ℕ
+host_end g = host_base + 4096 * g.pages
+
+-- every host byte outside of the guest's memory is as before
+pub record SameElsewhere (g : Guest) (before after : List ℕ) : Type 0 where
+  pub size : length after ≡ length before
+  pub below : range after 0 host_base ≡ range before 0 host_base
+  pub above : range after (host_end g) (length before - host_end g) ≡ range before (host_end g) (length before - host_end g)

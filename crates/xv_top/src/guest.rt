@@ -13,7 +13,7 @@ ghost use Rattle.xv_lone.specs.Step.{lines_at};
 ghost use Rattle.xv_lone.specs.Turn as turns;
 ghost use Rattle.xv_lone.specs.Vcpu.{kicked_vcpu};
 ghost use Rattle.xv_lone.specs.declared.vcpu.GuestState.TheVariants.{Running};
-ghost use Rattle.xv_top.specs.Guest.{live_guest, lone_of, new_guest, window_of, regs_of_guest, core_of, in_turn, IsHeld};
+ghost use Rattle.xv_top.specs.Guest.{live_guest, lone_of, new_guest, window_of, regs_of_guest, core_of, in_turn, IsHeld, SameElsewhere};
 ghost use Rattle.xv_top.specs.World.{is_reset};
 
 use crate::monitor::lone_step;
@@ -141,6 +141,7 @@ impl Guest {
         ensures inside { result ≡ true → is_some (cell (flat self.now.pages) gpa (length bytes.now)) ≡ true }
         ensures loaded { result ≡ true →
             lone_of self.now mem.new ≡ journal.loaded (flat self.now.pages) gpa bytes.now (lone_of self.now mem.old) }
+        ensures elsewhere { SameElsewhere self.now mem.old mem.new }
         ensures size { length mem.new ≡ length mem.old }
     {
         let Some(at) = self.window().host_of(bytes.len() as u64, gpa) else {
@@ -181,6 +182,8 @@ impl Guest {
         ensures taken { taken_by machine.new.hart ≡ taken_by machine.old.hart + length (trail_of machine.new.hart) }
         ensures few { length (trail_of machine.new.hart) ≤ 1000 }
         ensures others { self.new ≡ record self.old { view = self.new.view } }
+        ensures elsewhere { SameElsewhere self.old machine.old.mem machine.new.mem }
+        ensures area { machine.new.area ≡ machine.old.area }
         ensures held { IsHeld self.new (length machine.new.mem) }
         ensures size { length machine.new.mem ≡ length machine.old.mem }
         ensures fit { IsFit machine.new }
@@ -222,6 +225,8 @@ impl Guest {
         ensures window { All (λ r. r.window ≡ window_of self.now) (trail_of machine.new.hart) }
         ensures taken { taken_by machine.new.hart ≡ taken_by machine.old.hart + length (trail_of machine.new.hart) }
         ensures few { length (trail_of machine.new.hart) ≤ 1000 }
+        ensures elsewhere { SameElsewhere self.now machine.old.mem machine.new.mem }
+        ensures area { machine.new.area ≡ machine.old.area }
         ensures size { length machine.new.mem ≡ length machine.old.mem }
         ensures fit { IsFit machine.new }
     {

@@ -6,7 +6,7 @@ use Rattle.xv_hart.specs.Hart.{regs_of, trail_of}
 use Rattle.xv_hart.specs.Step.{IsReady}
 use Rattle.xv_lone.specs.Ready.{is_called}
 use Rattle.xv_top.specs.Guest.{window_of, in_turn, regs_of_guest}
-use Rattle.xv_top.proofs.TurnLemmas.{IsTurning, turning_starts, turning_goes_on, turning_stops, turning_ends}
+use Rattle.xv_top.proofs.TurnLemmas.{IsTurning, turning_starts, turning_goes_on, turning_stops, turning_ends, stays_elsewhere}
 use Rattle.xv_top.proofs.guest.Guest.run.Goals as goal
 
 pub loop-made-init : goal.loop-made-init
@@ -24,6 +24,7 @@ loop-made-init g c =
       trail = ap length none;
       taken = omega arith;
       size = refl;
+      area = refl;
       fit = c.requires.fit;
     }
 
@@ -44,6 +45,7 @@ loop-made-preserved g c =
       trail = omega (arith, ap length grown, length-append (trail_of before.hart) (r ∷ []), inv.trail);
       taken = omega (arith, step.taken, inv.taken);
       size = step.size ∙ inv.size;
+      area = step.area ∙ inv.area;
       fit = step.room ∙ inv.fit;
     }
 
@@ -64,6 +66,8 @@ returns-in_default g c =
       window = subst (All (λ r. r.window ≡ window_of guest)) (sym grown) (All-push (λ r. r.window ≡ window_of guest) (trail_of before.hart) r inv.windows inv.turning.on.window);
       taken = omega (arith, step.taken, inv.taken, count);
       few = omega (arith, count, c.loop-made-test.true);
+      elsewhere = stays_elsewhere guest c.args.time c.args.machine.now.mem c.loop-made._made r (regs_of after.hart) before.mem after.mem (trail_of before.hart) c.lone_step.result c.loop-made-test.true inv.turning step.stepped;
+      area = step.area ∙ inv.area;
       size = step.size ∙ inv.size;
       fit = step.room ∙ inv.fit;
     }
@@ -73,3 +77,6 @@ returns-clause-turn g c =
     let inv = c.loop-made.invariant in
     let now = c.loop-made.machine in
     turning_ends c.args.self.now c.args.time c.args.machine.now.mem c.loop-made._made (regs_of now.hart) now.mem (trail_of now.hart) c.loop-made-test.false inv.turning
+
+pub returns-clause-elsewhere : goal.returns-clause-elsewhere
+returns-clause-elsewhere g c = c.loop-made.invariant.turning.on.good.memory.elsewhere

@@ -18,5 +18,6 @@ invariant-loop-made g l =
       trail : length (trail_of hart) ≡ l._made;
       taken : taken_by hart ≡ taken_by l.fn.machine.hart + l._made;
       size : length l.machine.mem ≡ length l.fn.machine.mem;
+      area : l.machine.area ≡ l.fn.machine.area;
       fit : IsFit l.machine;
     }
