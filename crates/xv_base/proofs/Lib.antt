@@ -1,3 +1,4 @@
+pub mod BitLemmas
 pub mod PaddedLemmas
 pub mod NameLemmas
 pub mod NumberLemmas
