@@ -1,7 +1,9 @@
 //! What every other crate of xv speaks of: names and numbers of the script, keys of guests and
-//! VCPUs, ranges of addresses, text in hexadecimal, want of memory, and counts of faults.
+//! VCPUs, ranges of addresses, bits of a number, text in hexadecimal, want of memory, and counts of
+//! faults.
 #![tactic(auto)]
 
+mod bits;
 mod keys;
 mod memory;
 mod name;
@@ -11,6 +13,7 @@ mod short;
 #[cfg(test)]
 mod tests;
 
+pub use bits::has_bit;
 pub use keys::{GuestKey, Span, VcpuNo};
 pub use name::{DevName, FileName, GuestName, dev_name_of, file_name_of, name_of};
 pub use number::number_of;

@@ -1,11 +1,12 @@
 -- Every write, trap and return leaves registers that hold what a write of them would keep.
-use Rattle.std.proofs.Common.{◌≡◌, ℕ, ◌%◌, ◌^◌, ◌-◌, Bool, true, false, not, Option, Some, None, unwrap_or, option_and_then, ◌∙◌, sym, refl, arith}
+use Rattle.std.proofs.Common.{◌≡◌, ℕ, ◌^◌, ◌-◌, Bool, true, false, not, Option, Some, None, unwrap_or, option_and_then, ◌∙◌, sym, refl, arith}
 use Rattle.std.specs.Int.RustNames.{bit_and, bit_or}
 use Rattle.std.proofs.lemmas.Bool.Decides.{nat_tests}
 use Rattle.xv_csr.specs.declared.SCsrs.{SCsrs}
 use Rattle.xv_csr.specs.declared.Register.{Register}
 use Rattle.xv_csr.specs.declared.Register.TheVariants.{Sstatus, Sie, Stvec, Scounteren, Senvcfg, Sscratch, Sepc, Scause, Stval, Sip, Satp, Time}
-use Rattle.xv_csr.specs.Bits.{has_bit, with_bit}
+use Rattle.xv_base.specs.Bits.{has_bit, with_bit}
+use Rattle.xv_csr.specs.Fields.{IsInstructionAddress}
 use Rattle.xv_csr.specs.Kept.{IsKept, kept_sstatus, kept_sie, kept_stvec, kept_scounteren, kept_senvcfg, kept_sepc, kept_satp}
 use Rattle.xv_csr.specs.Reset.{reset_csrs}
 use Rattle.xv_csr.specs.Table.{written, csr_written, register_of}
@@ -84,7 +85,7 @@ csr_written-kept csrs number false value kept = at_register (register_of number)
     at_register (Some register) = written-kept csrs value register kept
 
 -- a trap at an instruction's address
-pub entered-kept : (csrs : SCsrs) (user : Bool) (cause tval pc : ℕ) → IsKept csrs → pc % 4 ≡ 0 → IsKept (entered csrs user cause tval pc)
+pub entered-kept : (csrs : SCsrs) (user : Bool) (cause tval pc : ℕ) → IsKept csrs → IsInstructionAddress pc → IsKept (entered csrs user cause tval pc)
 unfolding entered kept_sepc
 entered-kept csrs user cause tval pc kept aligned =
     record { sstatus = entry_status-kept user csrs.sstatus kept.sstatus; sie = kept.sie; stvec = kept.stvec; scounteren = kept.scounteren; senvcfg = kept.senvcfg; sepc = omega arith; satp = kept.satp }

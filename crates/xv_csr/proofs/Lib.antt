@@ -1,2 +1,3 @@
 pub mod BitsLemmas
+mod CauseValues
 pub mod KeptLemmas

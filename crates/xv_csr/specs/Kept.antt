@@ -2,31 +2,33 @@
 -- section 4.1). A bit that isn't kept reads as 0, but for the read-only UXL of sstatus.
 use Rattle.std.specs.Prelude.{◌≡◌, ℕ, ◌+◌, ◌*◌, ◌/◌, ◌%◌, ◌^◌, ◌==◌, if◌then◌else◌, [], ◌∷◌, bit_and}
 use Rattle.xv_csr.specs.declared.SCsrs.{SCsrs}
-use Rattle.xv_csr.specs.Bits.{mask}
+use Rattle.xv_base.specs.Bits.{mask}
+use Rattle.xv_csr.specs.Cause.{software_interrupt, timer_interrupt, external_interrupt}
+use Rattle.xv_csr.specs.Fields.{sie_bit, spie_bit, spp_bit, sum_bit, mxr_bit, uxl, vectored, tm_bit, fiom_bit, instruction_alignment}
 
--- sstatus (4.1.1): SIE 1, SPIE 5, SPP 8, SUM 18 and MXR 19, beside UXL 33:32, which is 2
+-- sstatus (4.1.1): SIE, SPIE, SPP, SUM and MXR, beside the read-only UXL
 unfoldable pub kept_sstatus : ℕ → ℕ
-kept_sstatus value = bit_and value (mask (1 ∷ 5 ∷ 8 ∷ 18 ∷ 19 ∷ [])) + 2 * 2 ^ 32
+kept_sstatus value = bit_and value (mask (sie_bit ∷ spie_bit ∷ spp_bit ∷ sum_bit ∷ mxr_bit ∷ [])) + uxl
 
--- sie (4.1.3): software 1, timer 5 and external 9
+-- sie (4.1.3)
 unfoldable pub kept_sie : ℕ → ℕ
-kept_sie value = bit_and value (mask (1 ∷ 5 ∷ 9 ∷ []))
+kept_sie value = bit_and value (mask (software_interrupt ∷ timer_interrupt ∷ external_interrupt ∷ []))
 
--- stvec (4.1.2): BASE 63:2, and the mode 1 (vectored) or else 0 (direct)
+-- stvec (4.1.2): BASE 63:2, and the mode, vectored or else 0 (direct)
 unfoldable pub kept_stvec : ℕ → ℕ
-kept_stvec value = value / 4 * 4 + (if value % 4 == 1 then 1 else 0)
+kept_stvec value = value / 4 * 4 + (if value % 4 == vectored then vectored else 0)
 
--- scounteren (4.1.5): TM 1 alone
+-- scounteren (4.1.5): TM alone
 unfoldable pub kept_scounteren : ℕ → ℕ
-kept_scounteren value = bit_and value (mask (1 ∷ []))
+kept_scounteren value = bit_and value (mask (tm_bit ∷ []))
 
--- senvcfg (4.1.10): FIOM 0 alone
+-- senvcfg (4.1.10): FIOM alone
 unfoldable pub kept_senvcfg : ℕ → ℕ
-kept_senvcfg value = bit_and value (mask (0 ∷ []))
+kept_senvcfg value = bit_and value (mask (fiom_bit ∷ []))
 
--- sepc (4.1.7): a multiple of the length of an instruction
+-- sepc (4.1.7): an instruction's address
 unfoldable pub kept_sepc : ℕ → ℕ
-kept_sepc value = value / 4 * 4
+kept_sepc value = value / instruction_alignment * instruction_alignment
 
 -- satp (4.1.11): PPN 43:0 where MODE 63:60 is 0 (Bare). Any other MODE has no effect at all: Sv39, 8, isn't
 -- supported yet

@@ -1,11 +1,12 @@
 -- The supervisor CSRs after a reset.
-use Rattle.std.specs.Prelude.{◌*◌, ◌^◌, false}
+use Rattle.std.specs.Prelude.{false}
 use Rattle.xv_csr.specs.declared.SCsrs.{SCsrs}
+use Rattle.xv_csr.specs.Fields.{uxl}
 
--- 0 in each, but for the read-only UXL of sstatus, bits 33:32, which is 2 for 64 bits
+-- 0 in each, but for the read-only UXL of sstatus
 unfoldable pub reset_csrs : SCsrs
 reset_csrs = record {
-  sstatus = 2 * 2 ^ 32;
+  sstatus = uxl;
   sie = 0;
   ssip = false;
   stvec = 0;

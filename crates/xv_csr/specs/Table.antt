@@ -4,7 +4,9 @@ use Rattle.xv_csr.specs.declared.SCsrs.{SCsrs}
 use Rattle.xv_csr.specs.declared.Lines.{Lines}
 use Rattle.xv_csr.specs.declared.Register.{Register}
 use Rattle.xv_csr.specs.declared.Register.TheVariants.{Sstatus, Sie, Stvec, Scounteren, Senvcfg, Sscratch, Sepc, Scause, Stval, Sip, Satp, Time}
-use Rattle.xv_csr.specs.Bits.{has_bit}
+use Rattle.xv_base.specs.Bits.{has_bit}
+use Rattle.xv_csr.specs.Cause.{software_interrupt}
+use Rattle.xv_csr.specs.Fields.{tm_bit}
 use Rattle.xv_csr.specs.Kept.{kept_sstatus, kept_sie, kept_stvec, kept_scounteren, kept_senvcfg, kept_sepc, kept_satp}
 use Rattle.xv_csr.specs.Pending.{sip_of}
 
@@ -23,10 +25,10 @@ register_among (row ∷ others) number = if row.0 == number then Some row.1 else
 unfoldable pub register_of : ℕ → Option Register
 register_of number = register_among rows number
 
--- S reads each register; U reads time alone, and only where bit 1 of scounteren, TM, is set
+-- S reads each register; U reads time alone, and only where TM of scounteren is set
 abbrev pub may_read : SCsrs → Bool → Register → Bool
 may_read csrs false register = true
-may_read csrs true Time = has_bit 1 csrs.scounteren
+may_read csrs true Time = has_bit tm_bit csrs.scounteren
 may_read csrs true register = false
 
 -- what a read gives
@@ -55,7 +57,7 @@ written csrs value Sscratch = Some (record csrs { sscratch = value })
 written csrs value Sepc = Some (record csrs { sepc = kept_sepc value })
 written csrs value Scause = Some (record csrs { scause = value })
 written csrs value Stval = Some (record csrs { stval = value })
-written csrs value Sip = Some (record csrs { ssip = has_bit 1 value })
+written csrs value Sip = Some (record csrs { ssip = has_bit software_interrupt value })
 written csrs value Satp = Some (record csrs { satp = kept_satp csrs.satp value })
 written csrs value Time = None
 

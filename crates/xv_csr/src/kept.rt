@@ -5,14 +5,18 @@ ghost use Rattle.xv_csr.specs.Kept.{kept_sstatus, kept_sie, kept_stvec, kept_sco
 use crate::flags::{Interrupts, Sstatus};
 use bitflags::Flags;
 
+/// An instruction's address, and so pc and sepc, is a multiple of so many bytes (4.1.7).
+pub const INSTRUCTION_ALIGNMENT: u64 = 4;
+
 // the read-only UXL: 64 bits
-const UXL: u64 = 2 << 32;
+pub const UXL: u64 = 2 << 32;
 
-const TM: u64 = 1 << 1;
+pub const TM_BIT: u32 = 1;
 
-const FIOM: u64 = 1 << 0;
+const FIOM_BIT: u32 = 0;
 
-const VECTORED: u64 = 1;
+/// The mode of stvec in which interrupts have handlers of their own (4.1.2).
+pub const VECTORED: u64 = 1;
 
 const BARE: u64 = 0;
 
@@ -46,21 +50,21 @@ pub fn kept_stvec(value: u64) -> u64
 pub fn kept_scounteren(value: u64) -> u64
     ensures { result ≡ kept_scounteren value }
 {
-    value & TM
+    value & (1 << TM_BIT)
 }
 
 #[tactic(auto, unfolding(crate::specs::Kept::kept_senvcfg))]
 pub fn kept_senvcfg(value: u64) -> u64
     ensures { result ≡ kept_senvcfg value }
 {
-    value & FIOM
+    value & (1 << FIOM_BIT)
 }
 
 #[tactic(auto, unfolding(crate::specs::Kept::kept_sepc))]
 pub fn kept_sepc(value: u64) -> u64
     ensures { result ≡ kept_sepc value }
 {
-    value / 4 * 4
+    value / INSTRUCTION_ALIGNMENT * INSTRUCTION_ALIGNMENT
 }
 
 #[tactic(auto, unfolding(crate::specs::Kept::kept_satp))]

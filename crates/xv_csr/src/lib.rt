@@ -1,28 +1,32 @@
 //! The supervisor's control and status registers of one VCPU (Privileged Architecture 20211203,
-//! section 4.1), and the counter `time` (Unprivileged ISA 20191213, chapter 10). The definitions of
-//! trap entry, trap return and the choice of an interrupt stand here too.
+//! section 4.1), the counter `time` (Unprivileged ISA 20191213, chapter 10), and the causes of traps.
+//! The definitions of trap entry, trap return and the choice of an interrupt stand here too.
 //!
 //! What of the standard is this project's profile: the ASID of satp reads 0 and its MODE is Bare,
-//! since Sv39 isn't built; the A and D bits of table entries are never set by the hart; `cycle` and `instret` are
-//! refused, so `scounteren` keeps TM alone; `senvcfg` keeps FIOM alone.
+//! since Sv39 isn't built; the A and D bits of table entries are never set by the hart; `cycle` and
+//! `instret` are refused, so `scounteren` keeps TM alone; `senvcfg` keeps FIOM alone.
 #![tactic(auto)]
 
+pub mod cause;
 mod flags;
 mod kept;
 #[cfg(test)]
 mod tests;
 
-ghost use Rattle.std.specs.Prelude.{◌≡◌, ◌<◌, false, is_some, unwrap_or};
-ghost use Rattle.xv_csr.specs.Bits.{has_bit};
+ghost use Rattle.std.specs.Prelude.{◌≡◌, false, is_some, unwrap_or};
 ghost use Rattle.xv_csr.specs.Kept.{IsKept};
 ghost use Rattle.xv_csr.specs.Pending.{sip_of, pending};
 ghost use Rattle.xv_csr.specs.Reset.{reset_csrs};
 ghost use Rattle.xv_csr.specs.Table.{csr_read, csr_written, may_read, shown, written, register_of};
 
+use cause::{EXTERNAL_INTERRUPT, SOFTWARE_INTERRUPT, TIMER_INTERRUPT};
 pub use flags::{Interrupts, Sstatus};
+pub use kept::{INSTRUCTION_ALIGNMENT, VECTORED};
 use kept::{
-    kept_satp, kept_scounteren, kept_senvcfg, kept_sepc, kept_sie, kept_sstatus, kept_stvec,
+    TM_BIT, UXL, kept_satp, kept_scounteren, kept_senvcfg, kept_sepc, kept_sie, kept_sstatus,
+    kept_stvec,
 };
+use xv_base::has_bit;
 
 /// The supervisor CSRs of a VCPU, each as a read gives it, but for `sip`: of that, `ssip` is the
 /// software interrupt, and the two lines come from outside.
@@ -97,7 +101,7 @@ impl SCsrs {
         ensures keeps { IsKept result }
     {
         SCsrs {
-            sstatus: 2 << 32,
+            sstatus: UXL,
             sie: 0,
             ssip: false,
             stvec: 0,
@@ -150,7 +154,7 @@ impl SCsrs {
             return true;
         }
         match register {
-            Register::Time => has_bit(self.scounteren, 1),
+            Register::Time => has_bit(self.scounteren, TM_BIT),
             _ => false,
         }
     }
@@ -188,36 +192,37 @@ impl SCsrs {
             Register::Sepc => self.sepc = kept_sepc(value),
             Register::Scause => self.scause = value,
             Register::Stval => self.stval = value,
-            Register::Sip => self.ssip = has_bit(value, 1),
+            Register::Sip => self.ssip = has_bit(value, SOFTWARE_INTERRUPT as u32),
             Register::Satp => self.satp = kept_satp(self.satp, value),
             Register::Time => return false,
         }
         true
     }
 
-    // the software interrupt and the two lines, at bits 1, 5 and 9
+    // the software interrupt and the two lines, each at its bit
     #[tactic(auto, unfolding(crate::specs::Pending::sip_of))]
     fn sip(&self, lines: Lines) -> u64
         ensures { result ≡ sip_of self.now lines }
     {
-        let software = if self.ssip { 1 << 1 } else { 0 };
-        let timer = if lines.timer { 1 << 5 } else { 0 };
-        let external = if lines.external { 1 << 9 } else { 0 };
+        let software = if self.ssip {
+            1 << SOFTWARE_INTERRUPT
+        } else {
+            0
+        };
+        let timer = if lines.timer { 1 << TIMER_INTERRUPT } else { 0 };
+        let external = if lines.external {
+            1 << EXTERNAL_INTERRUPT
+        } else {
+            0
+        };
         software + timer + external
     }
 
-    /// sip & sie: the interrupts that are pending and enabled, as bits 1, 5 and 9.
+    /// sip & sie: the interrupts that are pending and enabled, each at its bit.
     #[tactic(auto, unfolding(crate::specs::Pending::pending))]
     pub fn pending(&self, lines: Lines) -> u64
         ensures { result ≡ pending self.now lines }
     {
         self.sip(lines) & self.sie
     }
-}
-
-fn has_bit(number: u64, bit: u32) -> bool
-    requires { bit < 64 }
-    ensures { result ≡ has_bit bit number }
-{
-    number >> bit & 1 == 1
 }

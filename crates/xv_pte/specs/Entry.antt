@@ -1,33 +1,30 @@
 -- The fields of an entry of a page table (Privileged Architecture 20211203, section 4.4.1).
 -- An entry is a number below 2^64.
 use Rattle.std.specs.Prelude.{ℕ, ◌<◌, ◌/◌, ◌%◌, ◌^◌, ◌==◌, Bool, not, ◌&&◌, ◌||◌, if◌then◌else◌}
-use Rattle.std.specs.Int.{bit_at}
+use Rattle.xv_base.specs.Bits.{has_bit}
 use Rattle.xv_pte.specs.declared.entry.Kind.{Kind}
 use Rattle.xv_pte.specs.declared.entry.Kind.TheVariants.{Broken, Pointer, Leaf}
 
-abbrev pub bit : ℕ → ℕ → Bool
-bit k entry = bit_at entry k == 1
-
 abbrev pub is_valid : ℕ → Bool
-is_valid entry = bit 0 entry
+is_valid entry = has_bit 0 entry
 
 abbrev pub is_readable : ℕ → Bool
-is_readable entry = bit 1 entry
+is_readable entry = has_bit 1 entry
 
 abbrev pub is_writable : ℕ → Bool
-is_writable entry = bit 2 entry
+is_writable entry = has_bit 2 entry
 
 abbrev pub is_executable : ℕ → Bool
-is_executable entry = bit 3 entry
+is_executable entry = has_bit 3 entry
 
 abbrev pub is_users : ℕ → Bool
-is_users entry = bit 4 entry
+is_users entry = has_bit 4 entry
 
 abbrev pub is_accessed : ℕ → Bool
-is_accessed entry = bit 6 entry
+is_accessed entry = has_bit 6 entry
 
 abbrev pub is_dirty : ℕ → Bool
-is_dirty entry = bit 7 entry
+is_dirty entry = has_bit 7 entry
 
 -- the physical page number, bits 53:10
 abbrev pub page_number : ℕ → ℕ

@@ -1,6 +1,8 @@
 //! The fields of an entry of a page table (Privileged Architecture 20211203, section 4.4.1).
-ghost use Rattle.std.specs.Prelude.{◌≡◌, ◌<◌};
+ghost use Rattle.std.specs.Prelude.{◌≡◌};
 ghost use Rattle.xv_pte.specs.Entry as entries;
+
+use xv_base::has_bit;
 
 /// What an entry is, wherever it stands.
 #[derive(Clone, Copy, Debug, PartialEq, Eq)]
@@ -39,48 +41,48 @@ pub fn page_number(entry: u64) -> u64
 pub fn is_readable(entry: u64) -> bool
     ensures { result ≡ entries.is_readable entry }
 {
-    bit(1, entry)
+    has_bit(entry, 1)
 }
 
 /// W.
 pub fn is_writable(entry: u64) -> bool
     ensures { result ≡ entries.is_writable entry }
 {
-    bit(2, entry)
+    has_bit(entry, 2)
 }
 
 /// X.
 pub fn is_executable(entry: u64) -> bool
     ensures { result ≡ entries.is_executable entry }
 {
-    bit(3, entry)
+    has_bit(entry, 3)
 }
 
 /// U.
 pub fn is_users(entry: u64) -> bool
     ensures { result ≡ entries.is_users entry }
 {
-    bit(4, entry)
+    has_bit(entry, 4)
 }
 
 /// A.
 pub fn is_accessed(entry: u64) -> bool
     ensures { result ≡ entries.is_accessed entry }
 {
-    bit(6, entry)
+    has_bit(entry, 6)
 }
 
 /// D.
 pub fn is_dirty(entry: u64) -> bool
     ensures { result ≡ entries.is_dirty entry }
 {
-    bit(7, entry)
+    has_bit(entry, 7)
 }
 
 fn is_broken(entry: u64) -> bool
     ensures { result ≡ entries.is_broken entry }
 {
-    !bit(0, entry) || entry >> 54 != 0 || (is_writable(entry) && !is_readable(entry))
+    !has_bit(entry, 0) || entry >> 54 != 0 || (is_writable(entry) && !is_readable(entry))
 }
 
 fn is_pointer(entry: u64) -> bool
@@ -99,11 +101,4 @@ fn pointer(entry: u64) -> Kind
     } else {
         Kind::Pointer(page_number(entry))
     }
-}
-
-fn bit(k: u32, entry: u64) -> bool
-    requires { k < 64 }
-    ensures { result ≡ entries.bit k entry }
-{
-    (entry >> k) & 1 == 1
 }

@@ -2,8 +2,9 @@
 //! Architecture 20211203, sections 4.1.1 to 4.1.3).
 #![tactic(auto)]
 
-ghost use Rattle.std.specs.Prelude.{◌≡◌, ◌%◌};
-ghost use Rattle.xv_csr.specs.Bits.{has_bit};
+ghost use Rattle.std.specs.Prelude.{◌≡◌};
+ghost use Rattle.xv_base.specs.Bits.{has_bit};
+ghost use Rattle.xv_csr.specs.Fields.{sie_bit, IsInstructionAddress};
 ghost use Rattle.xv_csr.specs.Kept.{IsKept};
 ghost use Rattle.xv_csr.specs.Pending.{chosen_interrupt, first_of};
 ghost use Rattle.xv_csr.specs.Trap.{entry_status, entered, handler, return_status, returned, returns_to_user};
@@ -12,18 +13,8 @@ ghost use Rattle.xv_csr.specs.Trap.{entry_status, entered, handler, return_statu
 mod tests;
 
 use bitflags::Flags;
-use xv_csr::{Interrupts, Lines, SCsrs, Sstatus};
-
-// the top bit of a cause says that it is an interrupt
-const INTERRUPT: u64 = 1 << 63;
-
-const SOFTWARE: u64 = 1;
-
-const TIMER: u64 = 5;
-
-const EXTERNAL: u64 = 9;
-
-const VECTORED: u64 = 1;
+use xv_csr::cause::{EXTERNAL_INTERRUPT, INTERRUPT, SOFTWARE_INTERRUPT, TIMER_INTERRUPT};
+use xv_csr::{Interrupts, Lines, SCsrs, Sstatus, VECTORED};
 
 /// Takes a trap at `pc`, from U or from S, with its cause and the value for stval, and answers the
 /// address of the handler. An interrupt's cause is 2^63 and its number.
@@ -31,7 +22,7 @@ const VECTORED: u64 = 1;
 pub fn enter(csrs: &mut SCsrs, user: bool, cause: u64, tval: u64, pc: u64) -> u64
     ensures registers { csrs.new ≡ entered csrs.old user cause tval pc }
     ensures address { result ≡ handler csrs.old cause }
-    ensures keeps { IsKept csrs.old → pc % 4 ≡ 0 → IsKept csrs.new }
+    ensures keeps { IsKept csrs.old → IsInstructionAddress pc → IsKept csrs.new }
 {
     let address = handler(csrs, cause);
     csrs.sstatus = entry_status(user, csrs.sstatus);
@@ -112,7 +103,7 @@ fn was_user(csrs: &SCsrs) -> bool
 
 #[tactic(auto, using(crate::proofs::BitLemmas::contained))]
 fn are_enabled(status: u64) -> bool
-    ensures { result ≡ has_bit 1 status }
+    ensures { result ≡ has_bit sie_bit status }
 {
     Sstatus::from_bits_retain(status).contains(Sstatus::SIE)
 }
@@ -123,11 +114,11 @@ fn first_of(pending: u64) -> Option<u64>
 {
     let pending = Interrupts::from_bits_retain(pending);
     if pending.contains(Interrupts::EXTERNAL) {
-        Some(INTERRUPT + EXTERNAL)
+        Some(INTERRUPT + EXTERNAL_INTERRUPT)
     } else if pending.contains(Interrupts::SOFTWARE) {
-        Some(INTERRUPT + SOFTWARE)
+        Some(INTERRUPT + SOFTWARE_INTERRUPT)
     } else if pending.contains(Interrupts::TIMER) {
-        Some(INTERRUPT + TIMER)
+        Some(INTERRUPT + TIMER_INTERRUPT)
     } else {
         None
     }
