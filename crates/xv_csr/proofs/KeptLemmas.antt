@@ -9,8 +9,8 @@ use Rattle.xv_base.specs.Bits.{has_bit, with_bit}
 use Rattle.xv_csr.specs.Fields.{IsInstructionAddress}
 use Rattle.xv_csr.specs.Kept.{IsKept, kept_sstatus, kept_sie, kept_stvec, kept_scounteren, kept_senvcfg, kept_sepc, kept_satp}
 use Rattle.xv_csr.specs.Reset.{reset_csrs}
-use Rattle.xv_csr.specs.Table.{written, csr_written, register_of}
-use Rattle.xv_csr.specs.Trap.{entry_status, entered, return_status, returned}
+use Rattle.xv_csr.specs.Table.{register_written, csr_written, register_of}
+use Rattle.xv_csr.specs.Trap.{trap_status, trap_csrs, return_status, return_csrs}
 use Rattle.xv_csr.proofs.BitsLemmas.{masked, masked-add, and-and, masked-masked, masked-set, masked-clear}
 
 kept_sstatus-masked : (value : ℕ) → kept_sstatus value ≡ masked 0xC0122 0x2_0000_0000 value
@@ -52,8 +52,8 @@ with_bit-kept k true status inside apart kept =
 with_bit-kept k false status inside apart kept =
     kept_sstatus-masked (bit_and status (2 ^ 64 - 1 - 2 ^ k)) ∙ masked-clear 0xC0122 0x2_0000_0000 status (2 ^ 64 - 1 - 2 ^ k) (sym (kept_sstatus-masked status) ∙ kept) apart
 
-entry_status-kept : (user : Bool) (status : ℕ) → kept_sstatus status ≡ status → kept_sstatus (entry_status user status) ≡ entry_status user status
-entry_status-kept user status kept =
+trap_status-kept : (user : Bool) (status : ℕ) → kept_sstatus status ≡ status → kept_sstatus (trap_status user status) ≡ trap_status user status
+trap_status-kept user status kept =
     with_bit-kept 8 (not user) _ refl refl (with_bit-kept 5 (has_bit 1 status) _ refl refl (with_bit-kept 1 false status refl refl kept))
 
 return_status-kept : (status : ℕ) → kept_sstatus status ≡ status → kept_sstatus (return_status status) ≡ return_status status
@@ -61,38 +61,38 @@ return_status-kept status kept =
     with_bit-kept 8 false _ refl refl (with_bit-kept 5 true _ refl refl (with_bit-kept 1 (has_bit 5 status) status refl refl kept))
 
 -- what a write of one register leaves
-pub written-kept : (csrs : SCsrs) (value : ℕ) (register : Register) → IsKept csrs → IsKept (unwrap_or (written csrs value register) csrs)
-written-kept csrs value Sstatus kept = record { sstatus = kept_sstatus-kept value; sie = kept.sie; stvec = kept.stvec; scounteren = kept.scounteren; senvcfg = kept.senvcfg; sepc = kept.sepc; satp = kept.satp }
-written-kept csrs value Sie kept = record { sstatus = kept.sstatus; sie = kept_sie-kept value; stvec = kept.stvec; scounteren = kept.scounteren; senvcfg = kept.senvcfg; sepc = kept.sepc; satp = kept.satp }
-written-kept csrs value Stvec kept = record { sstatus = kept.sstatus; sie = kept.sie; stvec = kept_stvec-kept value; scounteren = kept.scounteren; senvcfg = kept.senvcfg; sepc = kept.sepc; satp = kept.satp }
-written-kept csrs value Scounteren kept = record { sstatus = kept.sstatus; sie = kept.sie; stvec = kept.stvec; scounteren = kept_scounteren-kept value; senvcfg = kept.senvcfg; sepc = kept.sepc; satp = kept.satp }
-written-kept csrs value Senvcfg kept = record { sstatus = kept.sstatus; sie = kept.sie; stvec = kept.stvec; scounteren = kept.scounteren; senvcfg = kept_senvcfg-kept value; sepc = kept.sepc; satp = kept.satp }
-written-kept csrs value Sscratch kept = record { sstatus = kept.sstatus; sie = kept.sie; stvec = kept.stvec; scounteren = kept.scounteren; senvcfg = kept.senvcfg; sepc = kept.sepc; satp = kept.satp }
-written-kept csrs value Sepc kept = record { sstatus = kept.sstatus; sie = kept.sie; stvec = kept.stvec; scounteren = kept.scounteren; senvcfg = kept.senvcfg; sepc = kept_sepc-kept value; satp = kept.satp }
-written-kept csrs value Scause kept = record { sstatus = kept.sstatus; sie = kept.sie; stvec = kept.stvec; scounteren = kept.scounteren; senvcfg = kept.senvcfg; sepc = kept.sepc; satp = kept.satp }
-written-kept csrs value Stval kept = record { sstatus = kept.sstatus; sie = kept.sie; stvec = kept.stvec; scounteren = kept.scounteren; senvcfg = kept.senvcfg; sepc = kept.sepc; satp = kept.satp }
-written-kept csrs value Sip kept = record { sstatus = kept.sstatus; sie = kept.sie; stvec = kept.stvec; scounteren = kept.scounteren; senvcfg = kept.senvcfg; sepc = kept.sepc; satp = kept.satp }
-written-kept csrs value Satp kept = record { sstatus = kept.sstatus; sie = kept.sie; stvec = kept.stvec; scounteren = kept.scounteren; senvcfg = kept.senvcfg; sepc = kept.sepc; satp = kept_satp-kept csrs.satp value kept.satp }
-written-kept csrs value Time kept = kept
+pub register_written-kept : (csrs : SCsrs) (value : ℕ) (register : Register) → IsKept csrs → IsKept (unwrap_or (register_written csrs value register) csrs)
+register_written-kept csrs value Sstatus kept = record { sstatus = kept_sstatus-kept value; sie = kept.sie; stvec = kept.stvec; scounteren = kept.scounteren; senvcfg = kept.senvcfg; sepc = kept.sepc; satp = kept.satp }
+register_written-kept csrs value Sie kept = record { sstatus = kept.sstatus; sie = kept_sie-kept value; stvec = kept.stvec; scounteren = kept.scounteren; senvcfg = kept.senvcfg; sepc = kept.sepc; satp = kept.satp }
+register_written-kept csrs value Stvec kept = record { sstatus = kept.sstatus; sie = kept.sie; stvec = kept_stvec-kept value; scounteren = kept.scounteren; senvcfg = kept.senvcfg; sepc = kept.sepc; satp = kept.satp }
+register_written-kept csrs value Scounteren kept = record { sstatus = kept.sstatus; sie = kept.sie; stvec = kept.stvec; scounteren = kept_scounteren-kept value; senvcfg = kept.senvcfg; sepc = kept.sepc; satp = kept.satp }
+register_written-kept csrs value Senvcfg kept = record { sstatus = kept.sstatus; sie = kept.sie; stvec = kept.stvec; scounteren = kept.scounteren; senvcfg = kept_senvcfg-kept value; sepc = kept.sepc; satp = kept.satp }
+register_written-kept csrs value Sscratch kept = record { sstatus = kept.sstatus; sie = kept.sie; stvec = kept.stvec; scounteren = kept.scounteren; senvcfg = kept.senvcfg; sepc = kept.sepc; satp = kept.satp }
+register_written-kept csrs value Sepc kept = record { sstatus = kept.sstatus; sie = kept.sie; stvec = kept.stvec; scounteren = kept.scounteren; senvcfg = kept.senvcfg; sepc = kept_sepc-kept value; satp = kept.satp }
+register_written-kept csrs value Scause kept = record { sstatus = kept.sstatus; sie = kept.sie; stvec = kept.stvec; scounteren = kept.scounteren; senvcfg = kept.senvcfg; sepc = kept.sepc; satp = kept.satp }
+register_written-kept csrs value Stval kept = record { sstatus = kept.sstatus; sie = kept.sie; stvec = kept.stvec; scounteren = kept.scounteren; senvcfg = kept.senvcfg; sepc = kept.sepc; satp = kept.satp }
+register_written-kept csrs value Sip kept = record { sstatus = kept.sstatus; sie = kept.sie; stvec = kept.stvec; scounteren = kept.scounteren; senvcfg = kept.senvcfg; sepc = kept.sepc; satp = kept.satp }
+register_written-kept csrs value Satp kept = record { sstatus = kept.sstatus; sie = kept.sie; stvec = kept.stvec; scounteren = kept.scounteren; senvcfg = kept.senvcfg; sepc = kept.sepc; satp = kept_satp-kept csrs.satp value kept.satp }
+register_written-kept csrs value Time kept = kept
 
 pub csr_written-kept : (csrs : SCsrs) (number : ℕ) (user : Bool) (value : ℕ) → IsKept csrs → IsKept (unwrap_or (csr_written csrs number user value) csrs)
 unfolding csr_written
 csr_written-kept csrs number true value kept = kept
 csr_written-kept csrs number false value kept = at_register (register_of number)
   where
-    at_register : (register : Option Register) → IsKept (unwrap_or (option_and_then (λ r. written csrs value r) register) csrs)
+    at_register : (register : Option Register) → IsKept (unwrap_or (option_and_then (λ r. register_written csrs value r) register) csrs)
     at_register None = kept
-    at_register (Some register) = written-kept csrs value register kept
+    at_register (Some register) = register_written-kept csrs value register kept
 
 -- a trap at an instruction's address
-pub entered-kept : (csrs : SCsrs) (user : Bool) (cause tval pc : ℕ) → IsKept csrs → IsInstructionAddress pc → IsKept (entered csrs user cause tval pc)
-unfolding entered kept_sepc
-entered-kept csrs user cause tval pc kept aligned =
-    record { sstatus = entry_status-kept user csrs.sstatus kept.sstatus; sie = kept.sie; stvec = kept.stvec; scounteren = kept.scounteren; senvcfg = kept.senvcfg; sepc = omega arith; satp = kept.satp }
+pub trap_csrs-kept : (csrs : SCsrs) (user : Bool) (cause tval pc : ℕ) → IsKept csrs → IsInstructionAddress pc → IsKept (trap_csrs csrs user cause tval pc)
+unfolding trap_csrs kept_sepc
+trap_csrs-kept csrs user cause tval pc kept aligned =
+    record { sstatus = trap_status-kept user csrs.sstatus kept.sstatus; sie = kept.sie; stvec = kept.stvec; scounteren = kept.scounteren; senvcfg = kept.senvcfg; sepc = omega arith; satp = kept.satp }
 
-pub returned-kept : (csrs : SCsrs) → IsKept csrs → IsKept (returned csrs)
-unfolding returned
-returned-kept csrs kept =
+pub return_csrs-kept : (csrs : SCsrs) → IsKept csrs → IsKept (return_csrs csrs)
+unfolding return_csrs
+return_csrs-kept csrs kept =
     record { sstatus = return_status-kept csrs.sstatus kept.sstatus; sie = kept.sie; stvec = kept.stvec; scounteren = kept.scounteren; senvcfg = kept.senvcfg; sepc = kept.sepc; satp = kept.satp }
 
 pub reset_csrs_kept : IsKept reset_csrs

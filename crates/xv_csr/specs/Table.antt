@@ -32,41 +32,41 @@ may_read csrs true Time = has_bit tm_bit csrs.scounteren
 may_read csrs true register = false
 
 -- what a read gives
-abbrev pub shown : SCsrs → Lines → ℕ → Register → ℕ
-shown csrs lines time Sstatus = csrs.sstatus
-shown csrs lines time Sie = csrs.sie
-shown csrs lines time Stvec = csrs.stvec
-shown csrs lines time Scounteren = csrs.scounteren
-shown csrs lines time Senvcfg = csrs.senvcfg
-shown csrs lines time Sscratch = csrs.sscratch
-shown csrs lines time Sepc = csrs.sepc
-shown csrs lines time Scause = csrs.scause
-shown csrs lines time Stval = csrs.stval
-shown csrs lines time Sip = sip_of csrs lines
-shown csrs lines time Satp = csrs.satp
-shown csrs lines time Time = time
+abbrev pub register_read : SCsrs → Lines → ℕ → Register → ℕ
+register_read csrs lines time Sstatus = csrs.sstatus
+register_read csrs lines time Sie = csrs.sie
+register_read csrs lines time Stvec = csrs.stvec
+register_read csrs lines time Scounteren = csrs.scounteren
+register_read csrs lines time Senvcfg = csrs.senvcfg
+register_read csrs lines time Sscratch = csrs.sscratch
+register_read csrs lines time Sepc = csrs.sepc
+register_read csrs lines time Scause = csrs.scause
+register_read csrs lines time Stval = csrs.stval
+register_read csrs lines time Sip = sip_of csrs lines
+register_read csrs lines time Satp = csrs.satp
+register_read csrs lines time Time = time
 
 -- what a write leaves, or none at the read-only time
-abbrev pub written : SCsrs → ℕ → Register → Option SCsrs
-written csrs value Sstatus = Some (record csrs { sstatus = kept_sstatus value })
-written csrs value Sie = Some (record csrs { sie = kept_sie value })
-written csrs value Stvec = Some (record csrs { stvec = kept_stvec value })
-written csrs value Scounteren = Some (record csrs { scounteren = kept_scounteren value })
-written csrs value Senvcfg = Some (record csrs { senvcfg = kept_senvcfg value })
-written csrs value Sscratch = Some (record csrs { sscratch = value })
-written csrs value Sepc = Some (record csrs { sepc = kept_sepc value })
-written csrs value Scause = Some (record csrs { scause = value })
-written csrs value Stval = Some (record csrs { stval = value })
-written csrs value Sip = Some (record csrs { ssip = has_bit software_interrupt value })
-written csrs value Satp = Some (record csrs { satp = kept_satp csrs.satp value })
-written csrs value Time = None
+abbrev pub register_written : SCsrs → ℕ → Register → Option SCsrs
+register_written csrs value Sstatus = Some (record csrs { sstatus = kept_sstatus value })
+register_written csrs value Sie = Some (record csrs { sie = kept_sie value })
+register_written csrs value Stvec = Some (record csrs { stvec = kept_stvec value })
+register_written csrs value Scounteren = Some (record csrs { scounteren = kept_scounteren value })
+register_written csrs value Senvcfg = Some (record csrs { senvcfg = kept_senvcfg value })
+register_written csrs value Sscratch = Some (record csrs { sscratch = value })
+register_written csrs value Sepc = Some (record csrs { sepc = kept_sepc value })
+register_written csrs value Scause = Some (record csrs { scause = value })
+register_written csrs value Stval = Some (record csrs { stval = value })
+register_written csrs value Sip = Some (record csrs { ssip = has_bit software_interrupt value })
+register_written csrs value Satp = Some (record csrs { satp = kept_satp csrs.satp value })
+register_written csrs value Time = None
 
 -- what a read of a CSR by its number gives in U or in S, or none where it is refused
 unfoldable pub csr_read : SCsrs → ℕ → Bool → Lines → ℕ → Option ℕ
 csr_read csrs number user lines time =
-    option_and_then (λ register. if may_read csrs user register then Some (shown csrs lines time register) else None) (register_of number)
+    option_and_then (λ register. if may_read csrs user register then Some (register_read csrs lines time register) else None) (register_of number)
 
 -- what a write of a CSR by its number leaves, or none where it is refused: always in U
 unfoldable pub csr_written : SCsrs → ℕ → Bool → ℕ → Option SCsrs
 csr_written csrs number user value =
-    if user then None else option_and_then (λ register. written csrs value register) (register_of number)
+    if user then None else option_and_then (λ register. register_written csrs value register) (register_of number)

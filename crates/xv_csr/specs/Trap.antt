@@ -6,14 +6,14 @@ use Rattle.xv_csr.specs.Cause.{is_interrupt}
 use Rattle.xv_csr.specs.Fields.{sie_bit, spie_bit, spp_bit, vectored}
 
 -- sstatus after a trap: SPIE is the old SIE, SIE is 0, and SPP the mode that was left
-abbrev pub entry_status : Bool → ℕ → ℕ
-entry_status user status =
+abbrev pub trap_status : Bool → ℕ → ℕ
+trap_status user status =
     with_bit spp_bit (not user) (with_bit spie_bit (has_bit sie_bit status) (with_bit sie_bit false status))
 
 -- the registers after a trap that was taken at pc
-unfoldable pub entered : SCsrs → Bool → ℕ → ℕ → ℕ → SCsrs
-entered csrs user cause tval pc =
-    record csrs { sstatus = entry_status user csrs.sstatus; sepc = pc; scause = cause; stval = tval }
+unfoldable pub trap_csrs : SCsrs → Bool → ℕ → ℕ → ℕ → SCsrs
+trap_csrs csrs user cause tval pc =
+    record csrs { sstatus = trap_status user csrs.sstatus; sepc = pc; scause = cause; stval = tval }
 
 -- the address of the handler: BASE, and four times the number behind it for an interrupt where the
 -- mode of stvec is vectored
@@ -28,8 +28,8 @@ return_status status =
     with_bit spp_bit false (with_bit spie_bit true (with_bit sie_bit (has_bit spie_bit status) status))
 
 -- the registers after SRET
-unfoldable pub returned : SCsrs → SCsrs
-returned csrs = record csrs { sstatus = return_status csrs.sstatus }
+unfoldable pub return_csrs : SCsrs → SCsrs
+return_csrs csrs = record csrs { sstatus = return_status csrs.sstatus }
 
 -- the mode after SRET is U where SPP is 0
 unfoldable pub returns_to_user : SCsrs → Bool

@@ -17,7 +17,7 @@ ghost use Rattle.std.specs.Prelude.{◌≡◌, false, is_some, unwrap_or};
 ghost use Rattle.xv_csr.specs.Kept.{IsKept};
 ghost use Rattle.xv_csr.specs.Pending.{sip_of, pending};
 ghost use Rattle.xv_csr.specs.Reset.{reset_csrs};
-ghost use Rattle.xv_csr.specs.Table.{csr_read, csr_written, may_read, shown, written, register_of};
+ghost use Rattle.xv_csr.specs.Table.{csr_read, csr_written, may_read, register_of, register_read, register_written};
 
 use cause::{EXTERNAL_INTERRUPT, SOFTWARE_INTERRUPT, TIMER_INTERRUPT};
 pub use flags::{Interrupts, Sstatus};
@@ -123,7 +123,7 @@ impl SCsrs {
     {
         let register = register_of(number)?;
         if self.may_read(user, register) {
-            Some(self.shown(lines, time, register))
+            Some(self.value_of(lines, time, register))
         } else {
             None
         }
@@ -159,8 +159,8 @@ impl SCsrs {
         }
     }
 
-    fn shown(&self, lines: Lines, time: u64, register: Register) -> u64
-        ensures { result ≡ shown self.now lines time register }
+    fn value_of(&self, lines: Lines, time: u64, register: Register) -> u64
+        ensures { result ≡ register_read self.now lines time register }
     {
         match register {
             Register::Sstatus => self.sstatus,
@@ -179,8 +179,8 @@ impl SCsrs {
     }
 
     fn put(&mut self, register: Register, value: u64) -> bool
-        ensures allowed { result ≡ is_some (written self.old value register) }
-        ensures after { self.new ≡ unwrap_or (written self.old value register) self.old }
+        ensures allowed { result ≡ is_some (register_written self.old value register) }
+        ensures after { self.new ≡ unwrap_or (register_written self.old value register) self.old }
     {
         match register {
             Register::Sstatus => self.sstatus = kept_sstatus(value),

@@ -4,7 +4,7 @@ use Rattle.xv_pte.specs.Entry.{kind_of}
 use Rattle.xv_pte.specs.declared.access.Kind3.{Kind3}
 use Rattle.xv_pte.specs.declared.access.Kind3.TheVariants.{Fetch, Load, Store}
 use Rattle.xv_pte.specs.declared.access.View.{View}
-use Rattle.xv_pte.specs.Sv39.{Reader, Verdict, Address, PageFault, NoEntry, walked, verdict, asked_by_walk, asked}
+use Rattle.xv_pte.specs.Sv39.{Reader, Verdict, Address, PageFault, NoEntry, path, verdict, entry_addresses}
 
 -- a reader of so many words, each with its address
 reader_of : List (ℕ × ℕ) → Reader
@@ -91,12 +91,12 @@ rows =
     ∷ []
 
 the_rows : verdicts rows ≡ given rows
-unfolding verdict walked kind_of verdicts given rows row supervisor sv39 va over_pages over_root reader_of entry
+unfolding verdict path kind_of verdicts given rows row supervisor sv39 va over_pages over_root reader_of entry
 the_rows = refl
 
 -- bits 63:39 equal bit 38
 least_canonical_above : verdict (reader_of []) supervisor 0xFFFF_FFC0_0000_0000 Load ≡ NoEntry 0x8000_0800
-unfolding verdict walked supervisor sv39 reader_of
+unfolding verdict path supervisor sv39 reader_of
 least_canonical_above = refl
 
 greatest_not_canonical : verdict (reader_of []) supervisor 0xFFFF_FFBF_FFFF_FFFF Load ≡ PageFault
@@ -108,6 +108,6 @@ unfolding verdict supervisor sv39 reader_of
 least_not_canonical = refl
 
 -- what is read, and no more
-all_levels_asked : asked (over_pages 0x43) supervisor va ≡ (0x8000_0008 ∷ 0x8000_1008 ∷ 0x8000_2018 ∷ [])
-unfolding asked asked_by_walk kind_of supervisor sv39 va over_pages reader_of entry
-all_levels_asked = refl
+all_levels_are_read : entry_addresses (over_pages 0x43) supervisor va ≡ (0x8000_0008 ∷ 0x8000_1008 ∷ 0x8000_2018 ∷ [])
+unfolding entry_addresses path kind_of supervisor sv39 va over_pages reader_of entry
+all_levels_are_read = refl

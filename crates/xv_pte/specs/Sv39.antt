@@ -30,27 +30,32 @@ abbrev pub entry_address : ℕ → ℕ → ℕ → ℕ
 entry_address page level va = page * 4096 + 8 * (va / 2 ^ page_bits level % 2 ^ 9)
 
 -- where a walk ends
-pub data Walked : Type 0 where
-  Found : (level : ℕ) → (entry : ℕ) → Walked
-  Fault : Walked
-  Absent : (gpa : ℕ) → Walked
+pub data WalkEnd : Type 0 where
+  Found : (level : ℕ) → (entry : ℕ) → WalkEnd
+  Fault : WalkEnd
+  Absent : (gpa : ℕ) → WalkEnd
 
--- what one entry makes of a walk: next is the walk through the table that a pointer names
-abbrev pub through : (ℕ → Walked) → ℕ → ℕ → Kind → Walked
-through next level entry Broken = Fault
-through next level entry (Pointer page) = next page
-through next level entry Leaf = Found level entry
+-- a walk: the addresses of the entries that it reads, in order, and its end
+pub record Path : Type 0 where
+  pub addresses : List ℕ
+  pub end : WalkEnd
 
-abbrev pub read_entry : (ℕ → Walked) → ℕ → ℕ → Option ℕ → Walked
-read_entry next level gpa None = Absent gpa
-read_entry next level gpa (Some entry) = through next level entry (kind_of entry)
+-- what an entry makes of the path; on is the path from the table that a pointer names
+abbrev pub through : (ℕ → Path) → ℕ → ℕ → ℕ → Kind → Path
+through on level gpa entry Broken = record { addresses = gpa ∷ []; end = Fault }
+through on level gpa entry (Pointer page) = record { addresses = gpa ∷ (on page).addresses; end = (on page).end }
+through on level gpa entry Leaf = record { addresses = gpa ∷ []; end = Found level entry }
+
+abbrev pub read_entry : (ℕ → Path) → ℕ → ℕ → Option ℕ → Path
+read_entry on level gpa None = record { addresses = gpa ∷ []; end = Absent gpa }
+read_entry on level gpa (Some entry) = through on level gpa entry (kind_of entry)
 
 -- the walk of a virtual address over so many levels, from the table of this page number on. No level is
 -- below level 0: a pointer there is a fault
-unfoldable pub walked : Reader → ℕ → ℕ → ℕ → Walked
-walked read va zero page = Fault
-walked read va (suc level) page =
-    read_entry (walked read va level) level (entry_address page level va) (read (entry_address page level va))
+unfoldable pub path : Reader → ℕ → ℕ → ℕ → Path
+path read va zero page = record { addresses = []; end = Fault }
+path read va (suc level) page =
+    read_entry (path read va level) level (entry_address page level va) (read (entry_address page level va))
 
 -- ---- permission
 
@@ -79,10 +84,11 @@ is_aligned level entry = page_number entry % 2 ^ (9 * level) == 0
 abbrev pub leaf_address : ℕ → ℕ → ℕ → ℕ
 leaf_address level entry va = page_number entry * 4096 + va % 2 ^ page_bits level
 
-abbrev pub judged : View → ℕ → Kind3 → Walked → Verdict
-judged v va access Fault = PageFault
-judged v va access (Absent gpa) = NoEntry gpa
-judged v va access (Found level entry) =
+-- at a walk's end
+abbrev pub end_verdict : View → ℕ → Kind3 → WalkEnd → Verdict
+end_verdict v va access Fault = PageFault
+end_verdict v va access (Absent gpa) = NoEntry gpa
+end_verdict v va access (Found level entry) =
     if is_aligned level entry && is_marked access entry && is_permitted access v.user v entry
     then Address (leaf_address level entry va)
     else PageFault
@@ -101,25 +107,10 @@ is_canonical va = va / 2 ^ 38 == 0 || va / 2 ^ 38 == 2 ^ 26 - 1
 unfoldable pub verdict : Reader → View → ℕ → Kind3 → Verdict
 verdict read v va access =
     if is_bare v then Address va
-    else if is_canonical va then judged v va access (walked read va 3 (root_page v))
+    else if is_canonical va then end_verdict v va access (path read va 3 (root_page v)).end
     else PageFault
 
--- ---- the addresses of the entries that a walk reads, in order
-
-abbrev pub then_asked : (ℕ → List ℕ) → Kind → List ℕ
-then_asked next Broken = []
-then_asked next (Pointer page) = next page
-then_asked next Leaf = []
-
-abbrev pub asked_after : (ℕ → List ℕ) → Option ℕ → List ℕ
-asked_after next None = []
-asked_after next (Some entry) = then_asked next (kind_of entry)
-
-unfoldable pub asked_by_walk : Reader → ℕ → ℕ → ℕ → List ℕ
-asked_by_walk read va zero page = []
-asked_by_walk read va (suc level) page =
-    entry_address page level va ∷ asked_after (asked_by_walk read va level) (read (entry_address page level va))
-
-unfoldable pub asked : Reader → View → ℕ → List ℕ
-asked read v va =
-    if is_bare v then [] else if is_canonical va then asked_by_walk read va 3 (root_page v) else []
+-- the addresses of the entries that are read, in order
+unfoldable pub entry_addresses : Reader → View → ℕ → List ℕ
+entry_addresses read v va =
+    if is_bare v then [] else if is_canonical va then (path read va 3 (root_page v)).addresses else []

@@ -4,7 +4,7 @@ use Rattle.xv_pte.specs.Entry.{is_users}
 use Rattle.xv_pte.specs.declared.access.Kind3.{Kind3}
 use Rattle.xv_pte.specs.declared.access.View.{View}
 use Rattle.xv_pte.specs.Sv39 as sv39
-use Rattle.xv_pte.specs.Sv39.{Verdict, Address, PageFault, NoEntry, Walked, Found, Fault, Absent}
+use Rattle.xv_pte.specs.Sv39.{Verdict, Address, PageFault, NoEntry, WalkEnd, Found, Fault, Absent}
 use Rattle.xv_sv39.specs.declared.leaf.Leaf.{Leaf}
 use Rattle.xv_sv39.specs.declared.tables.WalkFault.{WalkFault}
 use Rattle.xv_sv39.specs.declared.tables.WalkFault.TheVariants.{Page, Entry}
@@ -14,10 +14,10 @@ verdict_of (Ok gpa) = Address gpa
 verdict_of (Err Page) = PageFault
 verdict_of (Err (Entry gpa)) = NoEntry gpa
 
-abbrev pub walked_of : Result Leaf WalkFault → Walked
-walked_of (Ok leaf) = Found leaf.level leaf.entry
-walked_of (Err Page) = Fault
-walked_of (Err (Entry gpa)) = Absent gpa
+abbrev pub end_of : Result Leaf WalkFault → WalkEnd
+end_of (Ok leaf) = Found leaf.level leaf.entry
+end_of (Err Page) = Fault
+end_of (Err (Entry gpa)) = Absent gpa
 
 -- the level of a leaf
 abbrev pub IsLeaf : Result Leaf WalkFault → Type 0

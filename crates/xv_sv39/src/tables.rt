@@ -1,7 +1,7 @@
 //! The walk of the tables, from level 2 down to level 0.
 ghost use Rattle.std.specs.Prelude.{◌≡◌, ◌<◌, ◌^◌, []};
 ghost use Rattle.xv_pte.specs.Sv39 as sv39;
-ghost use Rattle.xv_sv39.specs.Translate.{walked_of, IsLeaf};
+ghost use Rattle.xv_sv39.specs.Translate.{end_of, IsLeaf};
 
 use crate::leaf::{Leaf, page_bits};
 use crate::words::Words;
@@ -18,11 +18,11 @@ pub enum WalkFault {
 
 /// The walk of a virtual address from the root table, by its page number.
 pub fn walk<R: Words>(reader: &mut R, root: u64, va: u64) -> Result<Leaf, WalkFault>
-    requires empty { R.asked reader.old ≡ [] }
+    requires empty { R.addresses reader.old ≡ [] }
     requires root { root < 2 ^ 44 }
-    ensures walked { sv39.walked (R.table reader.old) va 3 root ≡ walked_of result }
+    ensures end { (sv39.path (R.table reader.old) va 3 root).end ≡ end_of result }
     ensures leaf { IsLeaf result }
-    ensures asked { R.asked reader.new ≡ sv39.asked_by_walk (R.table reader.old) va 3 root }
+    ensures addresses { R.addresses reader.new ≡ (sv39.path (R.table reader.old) va 3 root).addresses }
     ensures table { R.table reader.new ≡ R.table reader.old }
     ensures rule { R.rule reader.old → R.rule reader.new }
 {

@@ -10,29 +10,29 @@ const AT: [u64; 3] = [0x8000_0008, 0x8000_1008, 0x8000_2018];
 /// Entry 1 of the root, entry 1 of the next table, entry 3 of the last, and the offset 0x456.
 const VA: u64 = 0x4020_3456;
 
-/// A word at each of the three addresses, and the addresses asked.
+/// A word at each of the three addresses, and the addresses that were read.
 #[derive(Drop)]
 struct Three {
     words: [u64; 3],
-    asked: [u64; 3],
+    read: [u64; 3],
     count: usize,
 }
 
 impl Words for Three {
     ghost table = { λ s gpa. if gpa == 0x8000_0008 then Some (slice_index s.words 0) else if gpa == 0x8000_1008 then Some (slice_index s.words 1) else if gpa == 0x8000_2018 then Some (slice_index s.words 2) else None };
 
-    ghost asked = { λ s. take s.count s.asked };
+    ghost addresses = { λ s. take s.count s.read };
 
     ghost rule = { λ s. s.count ≤ 3 };
 
     fn word(&mut self, gpa: u64) -> Option<u64>
-        requires room { length (take self.old.count self.old.asked) < 3 }
+        requires room { length (take self.old.count self.old.read) < 3 }
         ensures word { result ≡ (if gpa == 0x8000_0008 then Some (slice_index self.old.words 0) else if gpa == 0x8000_1008 then Some (slice_index self.old.words 1) else if gpa == 0x8000_2018 then Some (slice_index self.old.words 2) else None) }
         ensures words { self.new.words ≡ self.old.words }
         ensures rule { self.old.count ≤ 3 → self.new.count ≤ 3 }
-        ensures asked { take self.new.count self.new.asked ≡ take self.old.count self.old.asked ++ gpa ∷ [] }
+        ensures addresses { take self.new.count self.new.read ≡ take self.old.count self.old.read ++ gpa ∷ [] }
     {
-        self.asked[self.count] = gpa;
+        self.read[self.count] = gpa;
         self.count += 1;
         if gpa == AT[0] {
             Some(self.words[0])
@@ -58,7 +58,7 @@ struct Row {
     sum: bool,
     mxr: bool,
     answer: Result<u64, WalkFault>,
-    asked: usize,
+    reads: usize,
 }
 
 /// The root table in page 0x80000, with MODE Bare or Sv39.
@@ -89,7 +89,7 @@ const fn of_supervisor(
         sum: false,
         mxr: false,
         answer,
-        asked: 3,
+        reads: 3,
     }
 }
 
@@ -139,12 +139,12 @@ fn other_rows() -> [Row; 7] {
         },
         Row {
             bare: true,
-            asked: 0,
+            reads: 0,
             ..of_supervisor("Bare", 0, Kind3::Store, Ok(VA))
         },
         Row {
             root: (0x80003 << 10) | 1,
-            asked: 2,
+            reads: 2,
             ..of_supervisor(
                 "no memory for an entry",
                 0,
@@ -155,11 +155,11 @@ fn other_rows() -> [Row; 7] {
     ]
 }
 
-/// What the translation of a row answers, and how many entries it asks for.
+/// What the translation of a row answers, and how many entries it reads.
 fn translated(row: &Row) -> (Result<u64, WalkFault>, usize) {
     let mut reader = Three {
         words: [row.root, (0x80002 << 10) | 1, row.leaf],
-        asked: [0; 3],
+        read: [0; 3],
         count: 0,
     };
     let answer = translate(
@@ -179,7 +179,7 @@ fn verdicts(rt: HostRuntime) {
     for row in plain_rows() {
         assert_eq!(rt;
             translated(&row),
-            (row.answer, row.asked),
+            (row.answer, row.reads),
             "{}",
             row.message
         );
@@ -187,7 +187,7 @@ fn verdicts(rt: HostRuntime) {
     for row in other_rows() {
         assert_eq!(rt;
             translated(&row),
-            (row.answer, row.asked),
+            (row.answer, row.reads),
             "{}",
             row.message
         );

@@ -22,10 +22,10 @@ pub fn translate<R: Words>(
     sum: bool,
     mxr: bool,
 ) -> Result<u64, WalkFault>
-    requires empty { R.asked reader.old ≡ [] }
+    requires empty { R.addresses reader.old ≡ [] }
     requires mode { (satp / 2 ^ 60 ≡ 0) ⊎ (satp / 2 ^ 60 ≡ 8) }
     ensures verdict { verdict_of result ≡ sv39.verdict (R.table reader.old) (record { satp = satp; user = user; sum = sum; mxr = mxr }) va access }
-    ensures asked { R.asked reader.new ≡ sv39.asked (R.table reader.old) (record { satp = satp; user = user; sum = sum; mxr = mxr }) va }
+    ensures addresses { R.addresses reader.new ≡ sv39.entry_addresses (R.table reader.old) (record { satp = satp; user = user; sum = sum; mxr = mxr }) va }
     ensures table { R.table reader.new ≡ R.table reader.old }
     ensures rule { R.rule reader.old → R.rule reader.new }
 {
@@ -42,14 +42,14 @@ pub fn translate<R: Words>(
         mxr,
     };
     match walk(reader, satp % (1 << 44), va) {
-        Ok(leaf) => judge(&view, va, access, &leaf),
+        Ok(leaf) => leaf_verdict(&view, va, access, &leaf),
         Err(fault) => Err(fault),
     }
 }
 
-fn judge(view: &View, va: u64, access: Kind3, leaf: &Leaf) -> Result<u64, WalkFault>
+fn leaf_verdict(view: &View, va: u64, access: Kind3, leaf: &Leaf) -> Result<u64, WalkFault>
     requires { leaf.now.level < 3 }
-    ensures { verdict_of result ≡ sv39.judged view.now va access (sv39.Found leaf.now.level leaf.now.entry) }
+    ensures { verdict_of result ≡ sv39.end_verdict view.now va access (sv39.Found leaf.now.level leaf.now.entry) }
 {
     if leaf.admits(access, view) {
         Ok(leaf.address(va))

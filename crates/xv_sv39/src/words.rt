@@ -7,17 +7,17 @@ pub trait Words {
     /// The word that each address has, or none. No call changes it.
     ghost table: { Self → Reader };
 
-    /// The addresses asked so far, in order.
-    ghost asked: { Self → List ℕ };
+    /// The addresses that were read so far, in order.
+    ghost addresses: { Self → List ℕ };
 
     /// A rule of the reader that each call keeps.
     ghost rule: { Self → Type 0 };
 
     /// The word at an address.
     fn word(&mut self, gpa: u64) -> Option<u64>
-        requires room { length (asked self.old) < 3 }
+        requires room { length (addresses self.old) < 3 }
         ensures word { result ≡ table self.old gpa }
         ensures table { table self.new ≡ table self.old }
-        ensures asked { asked self.new ≡ asked self.old ++ gpa ∷ [] }
+        ensures addresses { addresses self.new ≡ addresses self.old ++ gpa ∷ [] }
         ensures rule { rule self.old → rule self.new };
 }

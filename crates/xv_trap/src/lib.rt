@@ -7,7 +7,7 @@ ghost use Rattle.xv_base.specs.Bits.{has_bit};
 ghost use Rattle.xv_csr.specs.Fields.{sie_bit, IsInstructionAddress};
 ghost use Rattle.xv_csr.specs.Kept.{IsKept};
 ghost use Rattle.xv_csr.specs.Pending.{chosen_interrupt, first_of};
-ghost use Rattle.xv_csr.specs.Trap.{entry_status, entered, handler, return_status, returned, returns_to_user};
+ghost use Rattle.xv_csr.specs.Trap.{trap_status, trap_csrs, handler, return_status, return_csrs, returns_to_user};
 
 #[cfg(test)]
 mod tests;
@@ -18,14 +18,14 @@ use xv_csr::{Interrupts, Lines, SCsrs, Sstatus, VECTORED};
 
 /// Takes a trap at `pc`, from U or from S, with its cause and the value for stval, and answers the
 /// address of the handler. An interrupt's cause is 2^63 and its number.
-#[tactic(auto, unfolding(xv_csr::specs::Trap::entered))]
+#[tactic(auto, unfolding(xv_csr::specs::Trap::trap_csrs))]
 pub fn enter(csrs: &mut SCsrs, user: bool, cause: u64, tval: u64, pc: u64) -> u64
-    ensures registers { csrs.new ≡ entered csrs.old user cause tval pc }
+    ensures registers { csrs.new ≡ trap_csrs csrs.old user cause tval pc }
     ensures address { result ≡ handler csrs.old cause }
     ensures keeps { IsKept csrs.old → IsInstructionAddress pc → IsKept csrs.new }
 {
     let address = handler(csrs, cause);
-    csrs.sstatus = entry_status(user, csrs.sstatus);
+    csrs.sstatus = trap_status(user, csrs.sstatus);
     csrs.sepc = pc;
     csrs.scause = cause;
     csrs.stval = tval;
@@ -33,9 +33,9 @@ pub fn enter(csrs: &mut SCsrs, user: bool, cause: u64, tval: u64, pc: u64) -> u6
 }
 
 /// Returns from a trap, as SRET does, and answers the pc and whether the mode is U now.
-#[tactic(auto, unfolding(xv_csr::specs::Trap::returned))]
+#[tactic(auto, unfolding(xv_csr::specs::Trap::return_csrs))]
 pub fn leave(csrs: &mut SCsrs) -> (u64, bool)
-    ensures registers { csrs.new ≡ returned csrs.old }
+    ensures registers { csrs.new ≡ return_csrs csrs.old }
     ensures pc { result.0 ≡ csrs.old.sepc }
     ensures mode { result.1 ≡ returns_to_user csrs.old }
     ensures keeps { IsKept csrs.old → IsKept csrs.new }
@@ -59,8 +59,8 @@ pub fn chosen(csrs: &SCsrs, user: bool, lines: Lines) -> Option<u64>
 }
 
 #[tactic(auto, using(crate::proofs::BitLemmas::contained))]
-fn entry_status(user: bool, status: u64) -> u64
-    ensures { result ≡ entry_status user status }
+fn trap_status(user: bool, status: u64) -> u64
+    ensures { result ≡ trap_status user status }
 {
     let mut status = Sstatus::from_bits_retain(status);
     let enabled = status.contains(Sstatus::SIE);
