@@ -1,7 +1,7 @@
 -- One step of the hart over host bytes.
 use Rattle.std.specs.Prelude.{ℕ, ◌≡◌, ◌/◌, ◌%◌, List, Bool, false, Option, Some, None}
 use Rattle.xv_csr.specs.Kept.{IsKept}
-use Rattle.xv_csr.specs.Trap.{entered, handler}
+use Rattle.xv_csr.specs.Trap.{trap_csrs, handler}
 use Rattle.xv_pte.specs.declared.access.Kind3.TheVariants as kinds
 use Rattle.xv_pte.specs.declared.access.Kind3.{Kind3}
 use Rattle.xv_step.specs.State.{Held as Reservation, State}
@@ -82,7 +82,7 @@ abbrev pub trapped_regs : (cause tval : ℕ) → Regs → Regs
 trapped_regs cause tval r = record r {
   pc = handler r.csrs cause;
   user = false;
-  csrs = entered r.csrs r.user cause tval r.pc;
+  csrs = trap_csrs r.csrs r.user cause tval r.pc;
 }
 
 -- what a step needs, and keeps, of the registers

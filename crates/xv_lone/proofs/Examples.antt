@@ -8,7 +8,7 @@ use Rattle.xv_csr.specs.Kept.{kept_stvec, kept_sie}
 use Rattle.xv_csr.specs.Pending.{chosen_interrupt, pending, sip_of}
 use Rattle.xv_csr.specs.Reset.{reset_csrs}
 use Rattle.xv_csr.specs.Table.{csr_read, csr_written, register_of}
-use Rattle.xv_csr.specs.Trap.{entered, handler, returned, returns_to_user}
+use Rattle.xv_csr.specs.Trap.{trap_csrs, handler, return_csrs, returns_to_user}
 use Rattle.xv_pte.specs.Sv39.{verdict}
 use Rattle.xv_step.specs.Step.{step}
 use Rattle.xv_lone.specs.declared.vcpu.VcpuView.{VcpuView}
@@ -116,5 +116,5 @@ table =
     ∷ []
 
 the_rows : map (λ r. r.0) table ≡ map (λ r. r.1) table
-unfolding plan bytes_of memory_of journal hart_number vcpu_shows vcpu_trap of_machine shows traps bit end_number turn_shows at_x5 handled table replay ending visited steps turn whole_turn iterate lone_step step word_at put put_word decode_of row_of rows form_of operation_at effect_of chosen_interrupt pending sip_of csr_read csr_written register_of entered handler returned returns_to_user kept_stvec kept_sie reset_csrs verdict
+unfolding plan bytes_of memory_of journal hart_number vcpu_shows vcpu_trap of_machine shows traps bit end_number turn_shows at_x5 handled table replay ending visited steps turn whole_turn iterate lone_step step word_at put put_word decode_of row_of rows form_of operation_at effect_of chosen_interrupt pending sip_of csr_read csr_written register_of trap_csrs handler return_csrs returns_to_user kept_stvec kept_sie reset_csrs verdict
 the_rows = refl

@@ -12,7 +12,7 @@ use Rattle.xv_csr.specs.Pending.{chosen_interrupt}
 use Rattle.xv_csr.specs.Table.{csr_read}
 use Rattle.xv_pte.specs.declared.access.Kind3.TheVariants as kinds
 use Rattle.xv_pte.specs.declared.access.Kind3.{Kind3}
-use Rattle.xv_pte.specs.Sv39.{Verdict, Address, PageFault, NoEntry, Reader, verdict, asked}
+use Rattle.xv_pte.specs.Sv39.{Verdict, Address, PageFault, NoEntry, Reader, verdict, entry_addresses}
 use Rattle.xv_pte.proofs.ReadersAgree.{Agree, verdict_same}
 use Rattle.xv_step.specs.Bus.{Bus, Spot, reader}
 use Rattle.xv_step.specs.State.{Held, State, held_as, set, at_pc, view, trapped}
@@ -123,7 +123,7 @@ module _ {MA PA MB PB : Type 0} (a : Bus MA PA) (b : Bus MB PB) (seen_memory : M
       translated_is_one =
           let read_a = reader a (seen_memory s.memory) in
           let read_b = reader b s.memory in
-          let agree = agree_all read_a read_b (reader_same s.memory is_good.memory) (asked read_a (view s) va) in
+          let agree = agree_all read_a read_b (reader_same s.memory is_good.memory) (entry_addresses read_a (view s) va) in
           subst (λ v. IsOne (memory.judged a (seen s) access width va lacks done_a v) (memory.translated b s access width va lacks done_b))
           (sym (verdict_same read_a read_b (view s) va access agree))
           (judged_is_one (verdict read_b (view s) va access))

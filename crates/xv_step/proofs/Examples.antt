@@ -12,7 +12,7 @@ use Rattle.xv_csr.specs.Reset.{reset_csrs}
 use Rattle.xv_csr.specs.Kept.{kept_stvec}
 use Rattle.xv_csr.specs.Pending.{chosen_interrupt, pending, sip_of}
 use Rattle.xv_csr.specs.Table.{csr_read, csr_written, register_of}
-use Rattle.xv_csr.specs.Trap.{entered, handler, returned, returns_to_user}
+use Rattle.xv_csr.specs.Trap.{trap_csrs, handler, return_csrs, returns_to_user}
 use Rattle.xv_csr.specs.declared.SCsrs.{SCsrs}
 use Rattle.xv_step.specs.Bus.{Bus}
 use Rattle.xv_step.specs.State.{State, set, trapped}
@@ -219,7 +219,7 @@ table =
     software status = record reset_csrs { ssip = true; sie = 2; stvec = 0x8000_0021; sstatus = status }
 
 the_rows : map (λ r. r.0) table ≡ map (λ r. r.1) table
-unfolding start mapped sv39.walked kind_of ran ran_in_user at_x5 ones table in_user with_csrs trap_of registers mode mode_of word steps memory_of bytes_of number_at stored_at bus inputs base answered answer step decode_of row_of rows form_of operation_at effect_of chosen_interrupt pending sip_of csr_read csr_written register_of entered handler returned returns_to_user kept_stvec reset_csrs sv39.verdict
+unfolding start mapped sv39.path kind_of ran ran_in_user at_x5 ones table in_user with_csrs trap_of registers mode mode_of word steps memory_of bytes_of number_at stored_at bus inputs base answered answer step decode_of row_of rows form_of operation_at effect_of chosen_interrupt pending sip_of csr_read csr_written register_of trap_csrs handler return_csrs returns_to_user kept_stvec reset_csrs sv39.verdict
 the_rows = refl
 
 -- WFI in S is left to who asks for the step

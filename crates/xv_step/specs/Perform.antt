@@ -10,7 +10,7 @@ use Rattle.xv_isa.specs.Results.{result_of}
 use Rattle.xv_csr.specs.declared.SCsrs.{SCsrs}
 use Rattle.xv_csr.specs.declared.Lines.{Lines}
 use Rattle.xv_csr.specs.Table.{csr_read, csr_written}
-use Rattle.xv_csr.specs.Trap.{returned, returns_to_user}
+use Rattle.xv_csr.specs.Trap.{return_csrs, returns_to_user}
 use Rattle.xv_pte.specs.declared.access.Kind3.TheVariants as kinds
 use Rattle.xv_step.specs.Bus.{Bus}
 use Rattle.xv_step.specs.State.{Held, State, set, at_pc, trapped}
@@ -109,7 +109,7 @@ module _ {M P : Type 0} (bus : Bus M P) (inputs : Inputs) (word : ℕ) (i : Insn
 
   -- SRET (3.3.2): the pc is sepc
   abbrev pub returned_to : Outcome M P
-  returned_to = Went (record s { pc = s.csrs.sepc; user = returns_to_user s.csrs; csrs = returned s.csrs })
+  returned_to = Went (record s { pc = s.csrs.sepc; user = returns_to_user s.csrs; csrs = return_csrs s.csrs })
 
   -- ---- the actions
 

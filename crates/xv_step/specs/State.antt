@@ -2,7 +2,7 @@
 use Rattle.std.specs.Prelude.{ℕ, ◌==◌, Bool, false, if◌then◌else◌, List, Option, Some, None, slice_set}
 use Rattle.xv_csr.specs.declared.SCsrs.{SCsrs}
 use Rattle.xv_csr.specs.Bits.{has_bit}
-use Rattle.xv_csr.specs.Trap.{entered, handler}
+use Rattle.xv_csr.specs.Trap.{trap_csrs, handler}
 use Rattle.xv_pte.specs.declared.access.View.{View}
 
 -- a reservation: a place and a number of bytes
@@ -40,7 +40,7 @@ abbrev pub trapped : {M P : Type 0} → ℕ → ℕ → State M P → State M P
 trapped cause tval s = record s {
   pc = handler s.csrs cause;
   user = false;
-  csrs = entered s.csrs s.user cause tval s.pc;
+  csrs = trap_csrs s.csrs s.user cause tval s.pc;
 }
 
 -- what decides on the accesses of the hart: SUM is bit 18 of sstatus, and MXR bit 19
