@@ -15,7 +15,7 @@ use Rattle.xv_hart.specs.declared.regs.Regs.{Regs}
 use Rattle.xv_hart.specs.declared.window.Window.{Window}
 use Rattle.xv_hart.specs.declared.exit.Exit.TheVariants.{Trap}
 use Rattle.xv_hart.specs.Window.{window_bus, host_of}
-use Rattle.xv_hart.specs.Step.{came, exit_of, state_of, trap_of, fault_trap}
+use Rattle.xv_hart.specs.Step.{came, exit_of, state_of, fault_trap, IsLeftAs}
 
 -- MODE is 0 in every satp that a write keeps
 bare : (satp : ℕ) → kept_satp 0 satp ≡ satp → (satp / 2 ^ 60 == 0) ≡ true
@@ -43,14 +43,14 @@ module _ (w : Window) (r : Regs) (bytes : List ℕ) (access : Kind3) (width va :
 
   translated_is : IsKept r.csrs → memory.translated (window_bus w) (state_of r bytes) access width va lacks done ≡ at_found lacks done va (host_of w width va)
   translated_is kept =
-      ap (memory.judged (window_bus w) (state_of r bytes) access width va lacks done) (verdict_is (reader (window_bus w) bytes) (view (state_of r bytes)) va access (bare r.csrs.satp kept.satp))
+      ap (memory.by_verdict (window_bus w) (state_of r bytes) access width va lacks done) (verdict_is (reader (window_bus w) bytes) (view (state_of r bytes)) va access (bare r.csrs.satp kept.satp))
       ∙ at_usable access (host_of w width va)
 
   pub reaches : IsKept r.csrs → (at : ℕ) → host_of w width va ≡ Some at → memory.translated (window_bus w) (state_of r bytes) access width va lacks done ≡ done at
   reaches kept at found = translated_is kept ∙ ap (at_found lacks done va) found
 
-  pub stops : IsKept r.csrs → host_of w width va ≡ None → trap_of r.user (lacks va) ≡ fault_trap r.user access va va 0
+  pub stops : IsKept r.csrs → host_of w width va ≡ None → IsLeftAs r.user access va lacks
       → came (Trap (fault_trap r.user access va va 0)) r bytes ≡ exit_of r bytes (memory.translated (window_bus w) (state_of r bytes) access width va lacks done)
   stops kept none trap =
-      ap (λ t. came (Trap t) r bytes) (sym trap)
+      ap (λ t. came (Trap t) r bytes) (sym (trap va))
       ∙ sym (ap (exit_of r bytes) (translated_is kept ∙ ap (at_found lacks done va) none))

@@ -20,21 +20,21 @@ change_of (change.BitsSet value) = effects.BitsSet value
 change_of (change.BitsCleared value) = effects.BitsCleared value
 change_of change.Unwritten = effects.Unwritten
 
-abbrev pub asked : Action → effects.Action
-asked (action.Set rd value) = effects.Set rd value
-asked (action.Jump target rd link) = effects.Jump target rd link
-asked (action.Load width signed va rd) = effects.Plain (effects.Load (bytes_of width) signed va rd)
-asked (action.Store width va value) = effects.Plain (effects.Store (bytes_of width) va value)
-asked (action.LoadReserved width va rd) = effects.LoadReserved (bytes_of width) va rd
-asked (action.StoreConditional width va value rd) = effects.StoreConditional (bytes_of width) va value rd
-asked (action.Modify op width va value rd) = effects.Modify op (bytes_of width) va value rd
-asked (action.AccessCsr number change rd) = effects.AccessCsr number (change_of change) rd
-asked action.FenceTranslations = effects.FenceTranslations
-asked action.Continue = effects.Continue
-asked action.EnvironmentCall = effects.EnvironmentCall
-asked action.Breakpoint = effects.Breakpoint
-asked action.SupervisorReturn = effects.SupervisorReturn
-asked action.WaitForInterrupt = effects.WaitForInterrupt
+abbrev pub action_of : Action → effects.Action
+action_of (action.Set rd value) = effects.Set rd value
+action_of (action.Jump target rd link) = effects.Jump target rd link
+action_of (action.Load width signed va rd) = effects.Plain (effects.Load (bytes_of width) signed va rd)
+action_of (action.Store width va value) = effects.Plain (effects.Store (bytes_of width) va value)
+action_of (action.LoadReserved width va rd) = effects.LoadReserved (bytes_of width) va rd
+action_of (action.StoreConditional width va value rd) = effects.StoreConditional (bytes_of width) va value rd
+action_of (action.Modify op width va value rd) = effects.Modify op (bytes_of width) va value rd
+action_of (action.AccessCsr number change rd) = effects.AccessCsr number (change_of change) rd
+action_of action.FenceTranslations = effects.FenceTranslations
+action_of action.Continue = effects.Continue
+action_of action.EnvironmentCall = effects.EnvironmentCall
+action_of action.Breakpoint = effects.Breakpoint
+action_of action.SupervisorReturn = effects.SupervisorReturn
+action_of action.WaitForInterrupt = effects.WaitForInterrupt
 
 -- registers are below 32, and what is stored has no more bytes than the access
 abbrev pub Fits : Action → Type 0

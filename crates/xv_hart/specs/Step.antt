@@ -1,11 +1,12 @@
 -- One step of the hart over host bytes.
-use Rattle.std.specs.Prelude.{ℕ, ◌≡◌, ◌/◌, ◌%◌, List, Bool, false, Option, Some, None}
+use Rattle.std.specs.Prelude.{ℕ, ◌≡◌, ◌/◌, List, [], Bool, Option, Some, None}
+use Rattle.xv_csr.specs.Cause.{environment_call_from_vs, virtual_instruction, instruction_guest_page_fault, load_guest_page_fault, store_guest_page_fault}
+use Rattle.xv_csr.specs.Fields.{IsInstructionAddress}
 use Rattle.xv_csr.specs.Kept.{IsKept}
-use Rattle.xv_csr.specs.Trap.{trap_csrs, handler}
 use Rattle.xv_pte.specs.declared.access.Kind3.TheVariants as kinds
 use Rattle.xv_pte.specs.declared.access.Kind3.{Kind3}
-use Rattle.xv_step.specs.State.{Held as Reservation, State}
-use Rattle.xv_step.specs.Outcome.{Ask, Entry, Target, Plain, Call, Wait, Outcome, Went, Left, access_kind}
+use Rattle.xv_step.specs.State.{Held as Reservation, State, trapped}
+use Rattle.xv_step.specs.Outcome.{Ask, TableEntry, Target, Plain, Call, Wait, Outcome, Went, Raised, Left, access_kind, address_of}
 use Rattle.xv_step.specs.Perform.{Inputs}
 use Rattle.xv_step.specs.Step.{step}
 use Rattle.xv_hart.specs.declared.exit.Exit.{Exit}
@@ -14,7 +15,7 @@ use Rattle.xv_hart.specs.declared.exit.HTrap.{HTrap}
 use Rattle.xv_hart.specs.declared.regs.Held.{Held}
 use Rattle.xv_hart.specs.declared.regs.Regs.{Regs}
 use Rattle.xv_hart.specs.declared.window.Window.{Window}
-use Rattle.xv_hart.specs.Window.{window_bus}
+use Rattle.xv_hart.specs.Memory.{bus_of}
 
 -- ---- the hart's registers, as a state over host bytes
 
@@ -25,6 +26,14 @@ held_of (Some held) = Some (record { place = held.host; width = held.width })
 abbrev pub state_of : Regs → List ℕ → State (List ℕ) ℕ
 state_of r bytes = record { x = r.x; pc = r.pc; user = r.user; csrs = r.csrs; held = held_of r.held; memory = bytes }
 
+-- the registers with those of a state, but for its reservation
+abbrev pub with_state : State (List ℕ) ℕ → Regs → Regs
+with_state s r = record r { x = s.x; pc = s.pc; user = s.user; csrs = s.csrs }
+
+-- and after a trap, which leaves the reservation
+abbrev pub after_trap : (cause tval : ℕ) → Regs → Regs
+after_trap cause tval r = with_state (trapped cause tval (state_of r [])) r
+
 abbrev pub inputs_of : Regs → Inputs
 inputs_of r = record { lines = r.lines; time = r.time }
 
@@ -32,9 +41,9 @@ inputs_of r = record { lines = r.lines; time = r.time }
 
 -- instruction, load and store guest-page fault
 abbrev pub guest_page_fault : Kind3 → ℕ
-guest_page_fault kinds.Fetch = 20
-guest_page_fault kinds.Load = 21
-guest_page_fault kinds.Store = 23
+guest_page_fault kinds.Fetch = instruction_guest_page_fault
+guest_page_fault kinds.Load = load_guest_page_fault
+guest_page_fault kinds.Store = store_guest_page_fault
 
 abbrev pub fault_trap : Bool → Kind3 → (va gpa htinst : ℕ) → HTrap
 fault_trap user access va gpa htinst =
@@ -48,11 +57,17 @@ abbrev pub wfi_word : ℕ
 wfi_word = 0x1050_0073
 
 abbrev pub trap_of : Bool → Ask → HTrap
-trap_of user (Entry access va gpa) = fault_trap user access va gpa entry_read
+trap_of user (TableEntry access va gpa) = fault_trap user access va gpa entry_read
 trap_of user (Target access va gpa) = fault_trap user access va gpa 0
-trap_of user (Plain access va gpa) = fault_trap user (access_kind access) va gpa 0
-trap_of user Call = record { cause = 10; tval = 0; htval = 0; htinst = 0; word = 0; user = user }
-trap_of user Wait = record { cause = 22; tval = wfi_word; htval = 0; htinst = 0; word = wfi_word; user = user }
+trap_of user (Plain access gpa next) = fault_trap user (access_kind access) (address_of access) gpa 0
+trap_of user (Call next) =
+    record { cause = environment_call_from_vs; tval = 0; htval = 0; htinst = 0; word = 0; user = user }
+trap_of user (Wait next) =
+    record { cause = virtual_instruction; tval = wfi_word; htval = 0; htinst = 0; word = wfi_word; user = user }
+
+-- an ask for a target at a guest physical address is left as the fault of this access
+abbrev pub IsLeftAs : Bool → Kind3 → (va : ℕ) → (ℕ → Ask) → Type 0
+IsLeftAs user access va lacks = (gpa : ℕ) → trap_of user (lacks gpa) ≡ fault_trap user access va gpa 0
 
 -- ---- the step
 
@@ -66,26 +81,24 @@ pub record HStep : Type 0 where
 abbrev pub came : Exit → Regs → List ℕ → HStep
 came exit r bytes = record { exit = exit; state = state_of r bytes; inputs = inputs_of r; window = r.window }
 
--- a hart that has made its step, or has left it to the monitor and is as before
+abbrev pub came_to : Regs → State (List ℕ) ℕ → HStep
+came_to r s = record { exit = Done; state = s; inputs = inputs_of r; window = r.window }
+
+-- a hart that has made its step, or has taken its exception, since the guest takes all of them itself; or one
+-- that has left its step to the monitor and is as before
 abbrev pub exit_of : Regs → List ℕ → Outcome (List ℕ) ℕ → HStep
-exit_of r bytes (Went s) = record { exit = Done; state = s; inputs = inputs_of r; window = r.window }
+exit_of r bytes (Went s) = came_to r s
+exit_of r bytes (Raised cause tval) = came_to r (trapped cause tval (state_of r bytes))
 exit_of r bytes (Left ask) = came (Trap (trap_of r.user ask)) r bytes
 
 abbrev pub outcome_of : Regs → List ℕ → Outcome (List ℕ) ℕ
-outcome_of r bytes = step (window_bus r.window) (inputs_of r) (state_of r bytes)
+outcome_of r bytes = step (bus_of r) (inputs_of r) (state_of r bytes)
 
 unfoldable pub hart_step : Regs → List ℕ → HStep
 hart_step r bytes = exit_of r bytes (outcome_of r bytes)
 
--- the registers after a trap into S
-abbrev pub trapped_regs : (cause tval : ℕ) → Regs → Regs
-trapped_regs cause tval r = record r {
-  pc = handler r.csrs cause;
-  user = false;
-  csrs = trap_csrs r.csrs r.user cause tval r.pc;
-}
-
--- what a step needs, and keeps, of the registers
-pub record IsReady (r : Regs) : Type 0 where
-  pub pc : r.pc % 4 ≡ 0
+-- what a step needs, and keeps, of the registers: the pc is an instruction's address, and each CSR holds what a
+-- write of it keeps
+pub record IsWellFormed (r : Regs) : Type 0 where
+  pub pc : IsInstructionAddress r.pc
   pub csrs : IsKept r.csrs

@@ -6,14 +6,18 @@ ghost use Rattle.xv_mem.specs.Bytes.{word_at, put_word};
 ghost use Rattle.xv_step.specs.Outcome.{Ask, Outcome, misaligned};
 ghost use Rattle.xv_step.specs.Memory.{accessed, translated};
 ghost use Rattle.xv_hart.specs.Action.{bytes_of};
-ghost use Rattle.xv_hart.specs.Window.{window_bus, host_of};
-ghost use Rattle.xv_hart.specs.Step.{came, exit_of, state_of, trap_of};
-ghost use Rattle.xv_hart.specs.Step.{fault_trap, guest_page_fault, IsReady};
+ghost use Rattle.xv_hart.specs.Memory.{bus_of, HasMemory};
+ghost use Rattle.xv_hart.specs.Step.{came, exit_of, state_of, IsLeftAs};
+ghost use Rattle.xv_hart.specs.Step.{guest_page_fault, IsWellFormed};
 
 use crate::action::Width;
 use crate::exit::{Exit, HTrap};
 use crate::regs::Regs;
 use std::sync::ledger::Ledger;
+use xv_csr::cause::{
+    INSTRUCTION_ADDRESS_MISALIGNED, INSTRUCTION_GUEST_PAGE_FAULT, LOAD_ADDRESS_MISALIGNED,
+    LOAD_GUEST_PAGE_FAULT, STORE_ADDRESS_MISALIGNED, STORE_GUEST_PAGE_FAULT,
+};
 use xv_mem::{HostMem, Steps};
 use xv_pte::Kind3;
 
@@ -105,9 +109,9 @@ fn guest_page_fault(kind: Kind3) -> u8
     ensures { result ≡ guest_page_fault kind }
 {
     match kind {
-        Kind3::Fetch => 20,
-        Kind3::Load => 21,
-        Kind3::Store => 23,
+        Kind3::Fetch => INSTRUCTION_GUEST_PAGE_FAULT as u8,
+        Kind3::Load => LOAD_GUEST_PAGE_FAULT as u8,
+        Kind3::Store => STORE_GUEST_PAGE_FAULT as u8,
     }
 }
 
@@ -117,35 +121,39 @@ fn misaligned(kind: Kind3) -> u64
     ensures { result ≡ misaligned kind }
 {
     match kind {
-        Kind3::Fetch => 0,
-        Kind3::Load => 4,
-        Kind3::Store => 6,
+        Kind3::Fetch => INSTRUCTION_ADDRESS_MISALIGNED,
+        Kind3::Load => LOAD_ADDRESS_MISALIGNED,
+        Kind3::Store => STORE_ADDRESS_MISALIGNED,
     }
 }
 
 impl Regs {
     /// The host address of an aligned access to memory, or the exit where it leads to none. While
     /// MODE is Bare, a virtual address is a guest physical address.
-    pub(crate) fn reach(&self, kind: Kind3, width: Width, va: u64) -> Result<u64, Exit>
-        requires ready { IsReady self.now }
-        requires fits { self.now.window.host + self.now.window.size < 2 ^ 64 }
-        requires base { self.now.window.base % 8 ≡ 0 }
-        requires host { self.now.window.host % 8 ≡ 0 }
+    pub(crate) fn reach(
+        &self,
+        mem: &HostMem,
+        kind: Kind3,
+        width: Width,
+        va: u64,
+    ) -> Result<u64, Exit>
+        requires formed { IsWellFormed self.now }
+        requires memory { HasMemory self.now mem.now }
         requires aligned { va % bytes_of width ≡ 0 }
-        ensures inside { IfOk result (λ at.
-            at + bytes_of width ≤ self.now.window.host + self.now.window.size) }
+        ensures inside { IfOk result (λ at. at + bytes_of width ≤ length mem.now) }
         ensures aligned { IfOk result (λ at. at % bytes_of width ≡ 0) }
         ensures reaches { IfOk result (λ at.
-            (bytes : List ℕ) (lacks : ℕ → Ask) (done : ℕ → Outcome (List ℕ) ℕ) →
-            translated (window_bus self.now.window) (state_of self.now bytes) kind
-            (bytes_of width) va lacks done ≡ done at) }
+            (lacks : ℕ → Ask) (done : ℕ → Outcome (List ℕ) ℕ) →
+            translated (bus_of self.now) (state_of self.now mem.now) kind (bytes_of width) va
+            lacks done ≡ done at) }
         ensures stops { IfErr result (λ exit.
-            (bytes : List ℕ) (lacks : ℕ → Ask) (done : ℕ → Outcome (List ℕ) ℕ) →
-            trap_of self.now.user (lacks va) ≡ fault_trap self.now.user kind va va 0 →
-            came exit self.now bytes ≡ exit_of self.now bytes
-            (translated (window_bus self.now.window) (state_of self.now bytes) kind
-            (bytes_of width) va lacks done)) }
+            (lacks : ℕ → Ask) (done : ℕ → Outcome (List ℕ) ℕ) →
+            IsLeftAs self.now.user kind va lacks →
+            came exit self.now mem.now ≡ exit_of self.now mem.now
+            (translated (bus_of self.now) (state_of self.now mem.now) kind (bytes_of width) va
+            lacks done)) }
     {
+        let _ = mem;
         match self.window.host_of(width.bytes() as u64, va) {
             Some(at) => Ok(at),
             None => Err(Exit::Trap(HTrap {
@@ -161,30 +169,33 @@ impl Regs {
 
     /// The host address of an access to memory, or the exit where it is misaligned, which is an
     /// exception of the hart's own, or leads to none.
-    pub(crate) fn access(&mut self, kind: Kind3, width: Width, va: u64) -> Result<u64, Exit>
-        requires ready { IsReady self.old }
-        requires fits { self.old.window.host + self.old.window.size < 2 ^ 64 }
-        requires base { self.old.window.base % 8 ≡ 0 }
-        requires host { self.old.window.host % 8 ≡ 0 }
+    pub(crate) fn access(
+        &mut self,
+        mem: &HostMem,
+        kind: Kind3,
+        width: Width,
+        va: u64,
+    ) -> Result<u64, Exit>
+        requires formed { IsWellFormed self.old }
+        requires memory { HasMemory self.old mem.now }
         ensures stays { IfOk result (λ _. self.new ≡ self.old) }
-        ensures inside { IfOk result (λ at.
-            at + bytes_of width ≤ self.old.window.host + self.old.window.size) }
+        ensures inside { IfOk result (λ at. at + bytes_of width ≤ length mem.now) }
         ensures aligned { IfOk result (λ at. at % bytes_of width ≡ 0) }
         ensures reaches { IfOk result (λ at.
-            (bytes : List ℕ) (lacks : ℕ → Ask) (done : ℕ → Outcome (List ℕ) ℕ) →
-            accessed (window_bus self.old.window) (state_of self.old bytes) kind
-            (bytes_of width) va lacks done ≡ done at) }
+            (lacks : ℕ → Ask) (done : ℕ → Outcome (List ℕ) ℕ) →
+            accessed (bus_of self.old) (state_of self.old mem.now) kind (bytes_of width) va
+            lacks done ≡ done at) }
         ensures stops { IfErr result (λ exit.
-            (bytes : List ℕ) (lacks : ℕ → Ask) (done : ℕ → Outcome (List ℕ) ℕ) →
-            trap_of self.old.user (lacks va) ≡ fault_trap self.old.user kind va va 0 →
-            came exit self.new bytes ≡ exit_of self.old bytes
-            (accessed (window_bus self.old.window) (state_of self.old bytes) kind
-            (bytes_of width) va lacks done)) }
-        ensures ready { IsReady self.new }
+            (lacks : ℕ → Ask) (done : ℕ → Outcome (List ℕ) ℕ) →
+            IsLeftAs self.old.user kind va lacks →
+            came exit self.new mem.now ≡ exit_of self.old mem.now
+            (accessed (bus_of self.old) (state_of self.old mem.now) kind (bytes_of width) va
+            lacks done)) }
+        ensures formed { IsWellFormed self.new }
     {
         if va % width.bytes() as u64 != 0 {
             return Err(self.trap(misaligned(kind), va));
         }
-        self.reach(kind, width, va)
+        self.reach(mem, kind, width, va)
     }
 }

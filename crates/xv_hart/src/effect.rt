@@ -3,18 +3,19 @@ ghost use Rattle.std.specs.Prelude.{◌≡◌, ◌<◌, ◌+◌, ◌%◌, ◌^�
 ghost use Rattle.xv_isa.specs.Effects as effects;
 ghost use Rattle.xv_isa.specs.Encoding.{InRange};
 ghost use Rattle.xv_isa.specs.Results.{residue};
-ghost use Rattle.xv_hart.specs.Action.{asked, bytes_of, change_of, Fits};
+ghost use Rattle.xv_hart.specs.Action.{action_of, bytes_of, change_of, Fits};
 
 use crate::access::low_bytes;
 use crate::action::{Action, CsrChange, Width};
 use xv_alu::result;
 use xv_isa::{Insn, Op, op_of};
 
-/// What the instruction at `pc` asks for, where the integer registers are `x`.
+/// What the instruction at `pc` asks for, where the integer registers are `x`, and the instruction
+/// behind it stands at `next`.
 #[tactic(auto, using(crate::proofs::EffectLemmas::registers_fit, crate::proofs::EffectLemmas::number_fits), unfolding(xv_isa::specs::Effects::effect_of))]
-pub(crate) fn effect(insn: &Insn, x: &[u64; 32], pc: u64) -> Action
+pub(crate) fn effect(insn: &Insn, x: &[u64; 32], pc: u64, next: u64) -> Action
     requires { InRange insn.now }
-    ensures asked { asked result ≡ effects.effect_of insn.now x.now pc }
+    ensures action { action_of result ≡ effects.effect_of insn.now x.now pc next }
     ensures fits { Fits result }
 {
     let a = register(x, insn.rs1);
@@ -25,14 +26,14 @@ pub(crate) fn effect(insn: &Insn, x: &[u64; 32], pc: u64) -> Action
     match op {
         Op::Lui => set(rd, result(Op::Lui, 0, immediate)),
         Op::Auipc => set(rd, result(Op::Auipc, pc, immediate)),
-        Op::Jal => jump(pc.wrapping_add(immediate), rd, pc),
-        Op::Jalr => jump(a.wrapping_add(immediate) / 2 * 2, rd, pc),
-        Op::Beq => branch(a == b, insn, pc),
-        Op::Bne => branch(a != b, insn, pc),
-        Op::Blt => branch(is_less(a, b), insn, pc),
-        Op::Bge => branch(!is_less(a, b), insn, pc),
-        Op::Bltu => branch(a < b, insn, pc),
-        Op::Bgeu => branch(!(a < b), insn, pc),
+        Op::Jal => jump(pc.wrapping_add(immediate), rd, next),
+        Op::Jalr => jump(a.wrapping_add(immediate) / 2 * 2, rd, next),
+        Op::Beq => branch(a == b, insn, pc, next),
+        Op::Bne => branch(a != b, insn, pc, next),
+        Op::Blt => branch(is_less(a, b), insn, pc, next),
+        Op::Bge => branch(!is_less(a, b), insn, pc, next),
+        Op::Bltu => branch(a < b, insn, pc, next),
+        Op::Bgeu => branch(!(a < b), insn, pc, next),
         Op::Lb => load(Width::W1, true, insn, a),
         Op::Lh => load(Width::W2, true, insn, a),
         Op::Lw => load(Width::W4, true, insn, a),
@@ -130,31 +131,31 @@ fn register(x: &[u64; 32], number: u8) -> u64
 
 fn set(rd: u8, value: u64) -> Action
     requires { rd < 32 }
-    ensures asked { asked result ≡ effects.Set rd value }
+    ensures action { action_of result ≡ effects.Set rd value }
     ensures fits { Fits result }
 {
     Action::Set { rd, value }
 }
 
 // A jump that links the next instruction.
-fn jump(target: u64, rd: u8, pc: u64) -> Action
+fn jump(target: u64, rd: u8, next: u64) -> Action
     requires { rd < 32 }
-    ensures asked { asked result ≡ effects.Jump target rd ((pc + 4) % 2 ^ 64) }
+    ensures action { action_of result ≡ effects.Jump target rd next }
     ensures fits { Fits result }
 {
     Action::Jump {
         target,
         rd,
-        link: pc.wrapping_add(4),
+        link: next,
     }
 }
 
-fn branch(taken: bool, insn: &Insn, pc: u64) -> Action
-    ensures asked { asked result ≡ effects.branch_if taken insn.now pc }
+fn branch(taken: bool, insn: &Insn, pc: u64, next: u64) -> Action
+    ensures action { action_of result ≡ effects.branch_if taken insn.now pc next }
     ensures fits { Fits result }
 {
     if taken {
-        jump(pc.wrapping_add(insn.imm.cast_unsigned()), 0, pc)
+        jump(pc.wrapping_add(insn.imm.cast_unsigned()), 0, next)
     } else {
         Action::Continue
     }
@@ -169,7 +170,7 @@ fn is_less(a: u64, b: u64) -> bool
 
 fn load(width: Width, signed: bool, insn: &Insn, a: u64) -> Action
     requires { insn.now.rd < 32 }
-    ensures asked { asked result ≡ effects.Plain
+    ensures action { action_of result ≡ effects.Plain
         (effects.Load (bytes_of width) signed (effects.moved a insn.now.imm) insn.now.rd) }
     ensures fits { Fits result }
 {
@@ -182,7 +183,7 @@ fn load(width: Width, signed: bool, insn: &Insn, a: u64) -> Action
 }
 
 fn store(width: Width, insn: &Insn, a: u64, b: u64) -> Action
-    ensures asked { asked result ≡ effects.Plain
+    ensures action { action_of result ≡ effects.Plain
         (effects.Store (bytes_of width) (effects.moved a insn.now.imm)
         (effects.low_bytes (bytes_of width) b)) }
     ensures fits { Fits result }
@@ -196,7 +197,7 @@ fn store(width: Width, insn: &Insn, a: u64, b: u64) -> Action
 
 fn conditional(width: Width, a: u64, b: u64, rd: u8) -> Action
     requires { rd < 32 }
-    ensures asked { asked result ≡ effects.StoreConditional
+    ensures action { action_of result ≡ effects.StoreConditional
         (bytes_of width) a (effects.low_bytes (bytes_of width) b) rd }
     ensures fits { Fits result }
 {
@@ -212,7 +213,7 @@ fn conditional(width: Width, a: u64, b: u64, rd: u8) -> Action
 fn csr(change: CsrChange, insn: &Insn) -> Action
     requires rd { insn.now.rd < 32 }
     requires number { residue 64 insn.now.imm < 4096 }
-    ensures asked { asked result ≡ effects.access_csr (change_of change) insn.now }
+    ensures action { action_of result ≡ effects.access_csr (change_of change) insn.now }
     ensures fits { Fits result }
 {
     Action::AccessCsr {

@@ -25,8 +25,8 @@ impl Hart {
     ghost use Rattle.std.specs.Prelude.{OnOk, OnErr, IsTrue, ◌↔◌};
     ghost use Rattle.xv_hart.specs.Hart.{regs_of, taken_by, trail_of, room_of};
     ghost use Rattle.xv_hart.specs.Hart.{zero_hart, trail_room};
-    ghost use Rattle.xv_hart.specs.Step.{hart_step, came, IsReady};
-    ghost use Rattle.xv_hart.specs.Window.{IsWindowIn};
+    ghost use Rattle.xv_hart.specs.Step.{hart_step, came, IsWellFormed};
+    ghost use Rattle.xv_hart.specs.Memory.{HasMemory};
 
     /// A hart of zeros that has taken no step.
     pub(crate) fn zero() -> Hart
@@ -108,13 +108,13 @@ impl Hart {
     /// memory, and the trail needs room for one more entry.
     pub fn step<L: Ledger>(&mut self, mem: &mut HostMem, steps: &mut Steps<L>) -> Exit
         requires room { length (trail_of self.old) < room_of self.old }
-        requires ready { IsReady (regs_of self.old) }
-        requires window { IsWindowIn (length mem.old) (regs_of self.old).window }
+        requires formed { IsWellFormed (regs_of self.old) }
+        requires memory { HasMemory (regs_of self.old) mem.old }
         requires few { taken_by self.old < 2 ^ 63 }
 
         ensures step { came result (regs_of self.new) mem.new
             ≡ hart_step (regs_of self.old) mem.old }
-        ensures ready { IsReady (regs_of self.new) }
+        ensures formed { IsWellFormed (regs_of self.new) }
         ensures taken { taken_by self.new ≡ taken_by self.old + 1 }
         ensures trail { trail_of self.new ≡ trail_of self.old ++ regs_of self.old ∷ [] }
         ensures room { room_of self.new ≡ room_of self.old }

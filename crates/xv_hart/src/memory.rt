@@ -1,12 +1,12 @@
 //! What the rows that access memory do: loads, stores and atomics (Unprivileged ISA 20191213, 2.6,
 //! 5.3 and chapter 8).
 ghost use Rattle.std.specs.Prelude.{◌≡◌, ℕ, ◌+◌, ◌*◌, ◌^◌, ◌<◌, ◌≤◌, length};
-ghost use Rattle.xv_isa.specs.declared.instruction.Insn.{Insn};
 ghost use Rattle.xv_isa.specs.Effects as effects;
+ghost use Rattle.xv_csr.specs.Fields.{IsInstructionAddress};
 ghost use Rattle.xv_step.specs.Perform as perform;
 ghost use Rattle.xv_hart.specs.Action.{bytes_of};
-ghost use Rattle.xv_hart.specs.Window.{window_bus, IsWindowIn};
-ghost use Rattle.xv_hart.specs.Step.{came, exit_of, state_of, inputs_of, held_of, IsReady};
+ghost use Rattle.xv_hart.specs.Memory.{bus_of, HasMemory};
+ghost use Rattle.xv_hart.specs.Step.{came, exit_of, state_of, inputs_of, held_of, IsWellFormed};
 
 use crate::access::{extended, low_bytes, read, write};
 use crate::action::Width;
@@ -19,7 +19,7 @@ use xv_mem::{HostMem, Steps};
 use xv_pte::Kind3;
 
 impl Regs {
-    /// A load: the number goes to rd.
+    /// A load: the number goes to rd, and the hart goes on at `next`.
     pub(crate) fn load<L: Ledger>(
         &mut self,
         mem: &HostMem,
@@ -27,26 +27,28 @@ impl Regs {
         signed: bool,
         va: u64,
         rd: u8,
+        next: u64,
         steps: &mut Steps<L>,
     ) -> Exit
-        requires ready { IsReady self.old }
-        requires window { IsWindowIn (length mem.now) self.old.window }
+        requires formed { IsWellFormed self.old }
+        requires memory { HasMemory self.old mem.now }
+        requires next { IsInstructionAddress next }
         requires rd { rd < 32 }
-        ensures came { (word : ℕ) (i : Insn) →
+        ensures came { (word : ℕ) →
             came result self.new mem.now ≡ exit_of self.old mem.now
-            (perform.plain (window_bus self.old.window) (inputs_of self.old) word i
+            (perform.plain (bus_of self.old) (inputs_of self.old) word next
             (state_of self.old mem.now)
             (effects.Load (bytes_of width) signed va rd)) }
-        ensures ready { IsReady self.new }
+        ensures formed { IsWellFormed self.new }
         ensures counted { steps.new ≤ steps.old + 1 }
     {
-        let at = match self.access(Kind3::Load, width, va) {
+        let at = match self.access(mem, Kind3::Load, width, va) {
             Ok(at) => at,
             Err(exit) => return exit,
         };
         let number = read(mem, width, at, steps);
         self.set_register(rd, extended(signed, width, number));
-        self.go_on()
+        self.go_on(next)
     }
 
     /// A store of the low bytes of a register.
@@ -56,26 +58,28 @@ impl Regs {
         width: Width,
         va: u64,
         value: u64,
+        next: u64,
         steps: &mut Steps<L>,
     ) -> Exit
-        requires ready { IsReady self.old }
-        requires window { IsWindowIn (length mem.old) self.old.window }
+        requires formed { IsWellFormed self.old }
+        requires memory { HasMemory self.old mem.old }
+        requires next { IsInstructionAddress next }
         requires small { value < 2 ^ (8 * bytes_of width) }
-        ensures came { (word : ℕ) (i : Insn) →
+        ensures came { (word : ℕ) →
             came result self.new mem.new ≡ exit_of self.old mem.old
-            (perform.plain (window_bus self.old.window) (inputs_of self.old) word i
+            (perform.plain (bus_of self.old) (inputs_of self.old) word next
             (state_of self.old mem.old)
             (effects.Store (bytes_of width) va value)) }
-        ensures ready { IsReady self.new }
+        ensures formed { IsWellFormed self.new }
         ensures size { length mem.new ≡ length mem.old }
         ensures counted { steps.new ≤ steps.old + 1 }
     {
-        let at = match self.access(Kind3::Store, width, va) {
+        let at = match self.access(mem, Kind3::Store, width, va) {
             Ok(at) => at,
             Err(exit) => return exit,
         };
         write(mem, width, at, value, steps);
-        self.go_on()
+        self.go_on(next)
     }
 
     /// LR: a load, with its sign, of bytes that are reserved from then on.
@@ -85,20 +89,22 @@ impl Regs {
         width: Width,
         va: u64,
         rd: u8,
+        next: u64,
         steps: &mut Steps<L>,
     ) -> Exit
-        requires ready { IsReady self.old }
-        requires window { IsWindowIn (length mem.now) self.old.window }
+        requires formed { IsWellFormed self.old }
+        requires memory { HasMemory self.old mem.now }
+        requires next { IsInstructionAddress next }
         requires rd { rd < 32 }
-        ensures came { (word : ℕ) (i : Insn) →
+        ensures came { (word : ℕ) →
             came result self.new mem.now ≡ exit_of self.old mem.now
-            (perform.performed (window_bus self.old.window) (inputs_of self.old) word i
+            (perform.performed (bus_of self.old) (inputs_of self.old) word next
             (state_of self.old mem.now)
             (effects.LoadReserved (bytes_of width) va rd)) }
-        ensures ready { IsReady self.new }
+        ensures formed { IsWellFormed self.new }
         ensures counted { steps.new ≤ steps.old + 1 }
     {
-        let at = match self.access(Kind3::Load, width, va) {
+        let at = match self.access(mem, Kind3::Load, width, va) {
             Ok(at) => at,
             Err(exit) => return exit,
         };
@@ -108,7 +114,7 @@ impl Regs {
             width: width.bytes(),
         });
         self.set_register(rd, extended(true, width, number));
-        self.go_on()
+        self.go_on(next)
     }
 
     /// SC: a store where just these bytes are reserved, after which rd is 0; else rd is 1. It gives
@@ -120,39 +126,41 @@ impl Regs {
         va: u64,
         value: u64,
         rd: u8,
+        next: u64,
         steps: &mut Steps<L>,
     ) -> Exit
-        requires ready { IsReady self.old }
-        requires window { IsWindowIn (length mem.old) self.old.window }
+        requires formed { IsWellFormed self.old }
+        requires memory { HasMemory self.old mem.old }
+        requires next { IsInstructionAddress next }
         requires rd { rd < 32 }
         requires small { value < 2 ^ (8 * bytes_of width) }
-        ensures came { (word : ℕ) (i : Insn) →
+        ensures came { (word : ℕ) →
             came result self.new mem.new ≡ exit_of self.old mem.old
-            (perform.performed (window_bus self.old.window) (inputs_of self.old) word i
+            (perform.performed (bus_of self.old) (inputs_of self.old) word next
             (state_of self.old mem.old)
             (effects.StoreConditional (bytes_of width) va value rd)) }
-        ensures ready { IsReady self.new }
+        ensures formed { IsWellFormed self.new }
         ensures size { length mem.new ≡ length mem.old }
         ensures counted { steps.new ≤ steps.old + 1 }
     {
-        let at = match self.access(Kind3::Store, width, va) {
+        let at = match self.access(mem, Kind3::Store, width, va) {
             Ok(at) => at,
             Err(exit) => return exit,
         };
-        let holds = self.holds(width, at);
+        let reserved = self.is_reserved(width, at);
         self.held = None;
-        if holds {
+        if reserved {
             write(mem, width, at, value, steps);
             self.set_register(rd, 0);
         } else {
             self.set_register(rd, 1);
         }
-        self.go_on()
+        self.go_on(next)
     }
 
     // Whether the reservation is of these bytes.
-    fn holds(&self, width: Width, at: u64) -> bool
-        ensures { result ≡ perform.holds (window_bus self.now.window) (bytes_of width) at
+    fn is_reserved(&self, width: Width, at: u64) -> bool
+        ensures { result ≡ perform.is_reserved (bus_of self.now) (bytes_of width) at
             (held_of self.now.held) }
     {
         match self.held {
@@ -171,21 +179,23 @@ impl Regs {
         va: u64,
         value: u64,
         rd: u8,
+        next: u64,
         steps: &mut Steps<L>,
     ) -> Exit
-        requires ready { IsReady self.old }
-        requires window { IsWindowIn (length mem.old) self.old.window }
+        requires formed { IsWellFormed self.old }
+        requires memory { HasMemory self.old mem.old }
+        requires next { IsInstructionAddress next }
         requires rd { rd < 32 }
-        ensures came { (word : ℕ) (i : Insn) →
+        ensures came { (word : ℕ) →
             came result self.new mem.new ≡ exit_of self.old mem.old
-            (perform.performed (window_bus self.old.window) (inputs_of self.old) word i
+            (perform.performed (bus_of self.old) (inputs_of self.old) word next
             (state_of self.old mem.old)
             (effects.Modify op (bytes_of width) va value rd)) }
-        ensures ready { IsReady self.new }
+        ensures formed { IsWellFormed self.new }
         ensures size { length mem.new ≡ length mem.old }
         ensures counted { steps.new ≤ steps.old + 2 }
     {
-        let at = match self.access(Kind3::Store, width, va) {
+        let at = match self.access(mem, Kind3::Store, width, va) {
             Ok(at) => at,
             Err(exit) => return exit,
         };
@@ -199,6 +209,6 @@ impl Regs {
             steps,
         );
         self.set_register(rd, old);
-        self.go_on()
+        self.go_on(next)
     }
 }

@@ -1,8 +1,8 @@
 //! The hart's registers, and the small changes that a step makes of them.
-ghost use Rattle.std.specs.Prelude.{◌≡◌, ◌+◌, ◌%◌, ◌^◌, ◌<◌, ◌↔◌, IsTrue};
+ghost use Rattle.std.specs.Prelude.{◌≡◌, ◌<◌, ◌↔◌, IsTrue};
 ghost use Rattle.xv_step.specs.State.{with_register};
 ghost use Rattle.xv_hart.specs.Hart.{zero_regs};
-ghost use Rattle.xv_hart.specs.Step.{trapped_regs, IsReady};
+ghost use Rattle.xv_hart.specs.Step.{after_trap, IsWellFormed};
 
 use crate::exit::Exit;
 use crate::window::Window;
@@ -91,21 +91,21 @@ impl Regs {
     }
 
     /// Goes on at the next instruction.
-    pub(crate) fn go_on(&mut self) -> Exit
+    pub(crate) fn go_on(&mut self, next: u64) -> Exit
         ensures done { result ≡ Exit.Done }
-        ensures pc { self.new ≡ record self.old { pc = (self.old.pc + 4) % 2 ^ 64 } }
+        ensures pc { self.new ≡ record self.old { pc = next } }
     {
-        self.pc = self.pc.wrapping_add(4);
+        self.pc = next;
         Exit::Done
     }
 
     /// Takes a trap into S, an exception or an interrupt.
     #[tactic(auto, using(crate::proofs::StepLemmas::handler_aligned))]
     pub(crate) fn trap(&mut self, cause: u64, tval: u64) -> Exit
-        requires ready { IsReady self.old }
+        requires formed { IsWellFormed self.old }
         ensures done { result ≡ Exit.Done }
-        ensures regs { self.new ≡ trapped_regs cause tval self.old }
-        ensures ready { IsReady self.new }
+        ensures regs { self.new ≡ after_trap cause tval self.old }
+        ensures formed { IsWellFormed self.new }
     {
         let pc = enter(&mut self.csrs, self.user, cause, tval, self.pc);
         self.pc = pc;

@@ -3,7 +3,7 @@ ghost use Rattle.std.specs.Prelude.{◌≡◌, ◌≤◌, ◌<◌, [], length, I
 ghost use Rattle.xv_csr.specs.Kept.{IsKept};
 ghost use Rattle.xv_hart.specs.Hart.{taken_by, trail_of};
 ghost use Rattle.xv_hart.specs.Machine.{IsFit};
-ghost use Rattle.xv_hart.specs.Step.{IsReady};
+ghost use Rattle.xv_hart.specs.Step.{IsWellFormed};
 ghost use Rattle.xv_hart.specs.Window.{IsWindowIn};
 
 use crate::{Exit, HTrap, Held, Machine, Regs, Window};
@@ -99,7 +99,7 @@ fn csrs() -> SCsrs
 
 /// The registers before each step. The last four bytes of the window are half of eight.
 fn before() -> Regs
-    ensures ready { IsReady result }
+    ensures formed { IsWellFormed result }
     ensures window { IsWindowIn 0x80_0000 result.window }
 {
     let mut x = [0; 32];
@@ -156,7 +156,7 @@ fn step_from<L: Ledger>(
     word: u32,
     blank: Blank,
 ) -> Result<After, NoMemory>
-    requires ready { IsReady regs.now }
+    requires formed { IsWellFormed regs.now }
     requires window { IsWindowIn 0x80_0000 regs.now.window }
     requires name { blank.name ≡ L.name }
     requires parts { blank.parts ≡ L.parts }
@@ -177,7 +177,7 @@ fn step_from<L: Ledger>(
 }
 
 fn step_once(alloc: Global, regs: &Regs, word: u32) -> Result<After, NoMemory>
-    requires ready { IsReady regs.now }
+    requires formed { IsWellFormed regs.now }
     requires window { IsWindowIn 0x80_0000 regs.now.window }
 {
     step_from::<Brand>(alloc, regs, word, Blank::new(1))
@@ -341,25 +341,24 @@ const LEFT: [(u64, u32, u8, u64, u64, u32); 10] = [
 #[test]
 fn left_to_the_monitor(rt: HostRuntime) -> Result<(), Fail> {
     for (pc, instruction, cause, tval, htval, word) in LEFT {
-        if pc % 4 == 0 {
-            let regs = Regs {
-                pc,
-                held: HELD_WORD,
-                ..before()
-            };
-            let after = step_once(rt.alloc(), &regs, instruction)?;
-            let trap = HTrap {
-                cause,
-                tval,
-                htval,
-                htinst: 0,
-                word,
-                user: false,
-            };
-            assert_eq!(rt; after.exit, Exit::Trap(trap), "{instruction:#x}");
-            assert_eq!(rt; after.data, OLD, "{instruction:#x}");
-            assert!(rt; *after.machine.hart.regs() == regs, "{instruction:#x}");
-        }
+        assert!(rt; pc % 4 == 0, "{pc:#x}");
+        let regs = Regs {
+            pc,
+            held: HELD_WORD,
+            ..before()
+        };
+        let after = step_once(rt.alloc(), &regs, instruction)?;
+        let trap = HTrap {
+            cause,
+            tval,
+            htval,
+            htinst: 0,
+            word,
+            user: false,
+        };
+        assert_eq!(rt; after.exit, Exit::Trap(trap), "{instruction:#x}");
+        assert_eq!(rt; after.data, OLD, "{instruction:#x}");
+        assert!(rt; *after.machine.hart.regs() == regs, "{instruction:#x}");
     }
     Ok(())
 }

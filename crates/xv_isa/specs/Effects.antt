@@ -1,5 +1,6 @@
--- The effect of each row: what the instruction asks of the hart, as a function of its fields, the registers
--- and the pc. Registers are a list of 32 numbers below 2^64, of which x0 reads 0; the pc is a number below
+-- The effect of each row: what the instruction asks of the hart, as a function of its fields, the registers,
+-- the pc, and where the next instruction stands, which is no matter of the fields: it depends on the length
+-- of the word. Registers are a list of 32 numbers below 2^64, of which x0 reads 0; the pc is a number below
 -- 2^64. What an asked thing does (translation, faults, traps, the CSRs) is the hart's.
 -- Unprivileged ISA 20191213, chapters 2, 5, 7, 8 and 9; Privileged Architecture 20211203, sections 3.3 and 4.2.
 use Rattle.std.specs.Prelude.{ℕ, ◌+◌, ◌*◌, ◌/◌, ◌%◌, ◌^◌, ◌==◌, Bool, true, false, not, nat_lt, if◌then◌else◌, List, ℤ, slice_index}
@@ -54,14 +55,6 @@ pub data Action : Type 0 where
 
 -- ---- parts
 
--- the bytes of an instruction
-abbrev pub insn_length : Insn → ℕ
-insn_length i = 4
-
--- where the next instruction stands
-abbrev pub next_pc : Insn → ℕ → ℕ
-next_pc i pc = (pc + insn_length i) % 2 ^ 64
-
 -- the value of a register
 abbrev pub register : List ℕ → ℕ → ℕ
 register registers k = if k == 0 then 0 else slice_index registers k
@@ -82,15 +75,15 @@ low_bytes width n = n % 2 ^ (8 * width)
 -- ---- kinds of rows
 
 -- rs1 with rs2
-abbrev pub with_register : Op → Insn → List ℕ → Action
-with_register o i rs = Set i.rd (result_of o (register rs i.rs1) (register rs i.rs2))
+abbrev pub of_registers : Op → Insn → List ℕ → Action
+of_registers o i rs = Set i.rd (result_of o (register rs i.rs1) (register rs i.rs2))
 
 -- rs1 with the immediate or the shift amount
-abbrev pub with_immediate : Op → Insn → List ℕ → Action
-with_immediate o i rs = Set i.rd (result_of o (register rs i.rs1) (residue 64 i.imm))
+abbrev pub of_immediate : Op → Insn → List ℕ → Action
+of_immediate o i rs = Set i.rd (result_of o (register rs i.rs1) (residue 64 i.imm))
 
-abbrev pub branch_if : Bool → Insn → ℕ → Action
-branch_if taken i pc = if taken then Jump (moved pc i.imm) 0 (next_pc i pc) else Continue
+abbrev pub branch_if : Bool → Insn → (pc next : ℕ) → Action
+branch_if taken i pc next = if taken then Jump (moved pc i.imm) 0 next else Continue
 
 abbrev pub load_at : ℕ → Bool → Insn → List ℕ → Action
 load_at width signed i rs = Plain (Load width signed (moved (register rs i.rs1) i.imm) i.rd)
@@ -118,105 +111,105 @@ below_signed a b = int_lt (signed_at 64 a) (signed_at 64 b)
 
 -- ---- the effect of an operation, row by row
 
-abbrev pub effect : Op → Insn → List ℕ → ℕ → Action
-effect Lui i rs pc = Set i.rd (result_of Lui 0 (residue 64 i.imm))
-effect Auipc i rs pc = Set i.rd (result_of Auipc pc (residue 64 i.imm))
-effect Jal i rs pc = Jump (moved pc i.imm) i.rd (next_pc i pc)
-effect Jalr i rs pc = Jump (moved (register rs i.rs1) i.imm / 2 * 2) i.rd (next_pc i pc)
-effect Beq i rs pc = branch_if (equal (register rs i.rs1) (register rs i.rs2)) i pc
-effect Bne i rs pc = branch_if (not (equal (register rs i.rs1) (register rs i.rs2))) i pc
-effect Blt i rs pc = branch_if (below_signed (register rs i.rs1) (register rs i.rs2)) i pc
-effect Bge i rs pc = branch_if (not (below_signed (register rs i.rs1) (register rs i.rs2))) i pc
-effect Bltu i rs pc = branch_if (nat_lt (register rs i.rs1) (register rs i.rs2)) i pc
-effect Bgeu i rs pc = branch_if (not (nat_lt (register rs i.rs1) (register rs i.rs2))) i pc
-effect Lb i rs pc = load_at 1 true i rs
-effect Lh i rs pc = load_at 2 true i rs
-effect Lw i rs pc = load_at 4 true i rs
-effect Ld i rs pc = load_at 8 true i rs
-effect Lbu i rs pc = load_at 1 false i rs
-effect Lhu i rs pc = load_at 2 false i rs
-effect Lwu i rs pc = load_at 4 false i rs
-effect Sb i rs pc = store_at 1 i rs
-effect Sh i rs pc = store_at 2 i rs
-effect Sw i rs pc = store_at 4 i rs
-effect Sd i rs pc = store_at 8 i rs
-effect Addi i rs pc = with_immediate Addi i rs
-effect Slti i rs pc = with_immediate Slti i rs
-effect Sltiu i rs pc = with_immediate Sltiu i rs
-effect Xori i rs pc = with_immediate Xori i rs
-effect Ori i rs pc = with_immediate Ori i rs
-effect Andi i rs pc = with_immediate Andi i rs
-effect Slli i rs pc = with_immediate Slli i rs
-effect Srli i rs pc = with_immediate Srli i rs
-effect Srai i rs pc = with_immediate Srai i rs
-effect Addiw i rs pc = with_immediate Addiw i rs
-effect Slliw i rs pc = with_immediate Slliw i rs
-effect Srliw i rs pc = with_immediate Srliw i rs
-effect Sraiw i rs pc = with_immediate Sraiw i rs
-effect Add i rs pc = with_register Add i rs
-effect Sll i rs pc = with_register Sll i rs
-effect Slt i rs pc = with_register Slt i rs
-effect Sltu i rs pc = with_register Sltu i rs
-effect Xor i rs pc = with_register Xor i rs
-effect Srl i rs pc = with_register Srl i rs
-effect Or i rs pc = with_register Or i rs
-effect And i rs pc = with_register And i rs
-effect Sub i rs pc = with_register Sub i rs
-effect Sra i rs pc = with_register Sra i rs
-effect Mul i rs pc = with_register Mul i rs
-effect Mulh i rs pc = with_register Mulh i rs
-effect Mulhsu i rs pc = with_register Mulhsu i rs
-effect Mulhu i rs pc = with_register Mulhu i rs
-effect Div i rs pc = with_register Div i rs
-effect Divu i rs pc = with_register Divu i rs
-effect Rem i rs pc = with_register Rem i rs
-effect Remu i rs pc = with_register Remu i rs
-effect Addw i rs pc = with_register Addw i rs
-effect Sllw i rs pc = with_register Sllw i rs
-effect Srlw i rs pc = with_register Srlw i rs
-effect Subw i rs pc = with_register Subw i rs
-effect Sraw i rs pc = with_register Sraw i rs
-effect Mulw i rs pc = with_register Mulw i rs
-effect Divw i rs pc = with_register Divw i rs
-effect Divuw i rs pc = with_register Divuw i rs
-effect Remw i rs pc = with_register Remw i rs
-effect Remuw i rs pc = with_register Remuw i rs
-effect Fence i rs pc = Continue
-effect FenceI i rs pc = Continue
-effect Ecall i rs pc = EnvironmentCall
-effect Ebreak i rs pc = Breakpoint
-effect Sret i rs pc = SupervisorReturn
-effect Wfi i rs pc = WaitForInterrupt
-effect SfenceVma i rs pc = FenceTranslations
-effect Csrrw i rs pc = access_csr (Written (register rs i.rs1)) i
-effect Csrrs i rs pc = access_csr (unless_zero i.rs1 (BitsSet (register rs i.rs1))) i
-effect Csrrc i rs pc = access_csr (unless_zero i.rs1 (BitsCleared (register rs i.rs1))) i
-effect Csrrwi i rs pc = access_csr (Written i.rs1) i
-effect Csrrsi i rs pc = access_csr (unless_zero i.rs1 (BitsSet i.rs1)) i
-effect Csrrci i rs pc = access_csr (unless_zero i.rs1 (BitsCleared i.rs1)) i
-effect LrW i rs pc = LoadReserved 4 (register rs i.rs1) i.rd
-effect LrD i rs pc = LoadReserved 8 (register rs i.rs1) i.rd
-effect ScW i rs pc = StoreConditional 4 (register rs i.rs1) (low_bytes 4 (register rs i.rs2)) i.rd
-effect ScD i rs pc = StoreConditional 8 (register rs i.rs1) (low_bytes 8 (register rs i.rs2)) i.rd
-effect AmoswapW i rs pc = modify_at AmoswapW 4 i rs
-effect AmoswapD i rs pc = modify_at AmoswapD 8 i rs
-effect AmoaddW i rs pc = modify_at AmoaddW 4 i rs
-effect AmoaddD i rs pc = modify_at AmoaddD 8 i rs
-effect AmoxorW i rs pc = modify_at AmoxorW 4 i rs
-effect AmoxorD i rs pc = modify_at AmoxorD 8 i rs
-effect AmoandW i rs pc = modify_at AmoandW 4 i rs
-effect AmoandD i rs pc = modify_at AmoandD 8 i rs
-effect AmoorW i rs pc = modify_at AmoorW 4 i rs
-effect AmoorD i rs pc = modify_at AmoorD 8 i rs
-effect AmominW i rs pc = modify_at AmominW 4 i rs
-effect AmominD i rs pc = modify_at AmominD 8 i rs
-effect AmomaxW i rs pc = modify_at AmomaxW 4 i rs
-effect AmomaxD i rs pc = modify_at AmomaxD 8 i rs
-effect AmominuW i rs pc = modify_at AmominuW 4 i rs
-effect AmominuD i rs pc = modify_at AmominuD 8 i rs
-effect AmomaxuW i rs pc = modify_at AmomaxuW 4 i rs
-effect AmomaxuD i rs pc = modify_at AmomaxuD 8 i rs
+abbrev pub effect : Op → Insn → List ℕ → (pc next : ℕ) → Action
+effect Lui i rs pc next = Set i.rd (result_of Lui 0 (residue 64 i.imm))
+effect Auipc i rs pc next = Set i.rd (result_of Auipc pc (residue 64 i.imm))
+effect Jal i rs pc next = Jump (moved pc i.imm) i.rd next
+effect Jalr i rs pc next = Jump (moved (register rs i.rs1) i.imm / 2 * 2) i.rd next
+effect Beq i rs pc next = branch_if (equal (register rs i.rs1) (register rs i.rs2)) i pc next
+effect Bne i rs pc next = branch_if (not (equal (register rs i.rs1) (register rs i.rs2))) i pc next
+effect Blt i rs pc next = branch_if (below_signed (register rs i.rs1) (register rs i.rs2)) i pc next
+effect Bge i rs pc next = branch_if (not (below_signed (register rs i.rs1) (register rs i.rs2))) i pc next
+effect Bltu i rs pc next = branch_if (nat_lt (register rs i.rs1) (register rs i.rs2)) i pc next
+effect Bgeu i rs pc next = branch_if (not (nat_lt (register rs i.rs1) (register rs i.rs2))) i pc next
+effect Lb i rs pc next = load_at 1 true i rs
+effect Lh i rs pc next = load_at 2 true i rs
+effect Lw i rs pc next = load_at 4 true i rs
+effect Ld i rs pc next = load_at 8 true i rs
+effect Lbu i rs pc next = load_at 1 false i rs
+effect Lhu i rs pc next = load_at 2 false i rs
+effect Lwu i rs pc next = load_at 4 false i rs
+effect Sb i rs pc next = store_at 1 i rs
+effect Sh i rs pc next = store_at 2 i rs
+effect Sw i rs pc next = store_at 4 i rs
+effect Sd i rs pc next = store_at 8 i rs
+effect Addi i rs pc next = of_immediate Addi i rs
+effect Slti i rs pc next = of_immediate Slti i rs
+effect Sltiu i rs pc next = of_immediate Sltiu i rs
+effect Xori i rs pc next = of_immediate Xori i rs
+effect Ori i rs pc next = of_immediate Ori i rs
+effect Andi i rs pc next = of_immediate Andi i rs
+effect Slli i rs pc next = of_immediate Slli i rs
+effect Srli i rs pc next = of_immediate Srli i rs
+effect Srai i rs pc next = of_immediate Srai i rs
+effect Addiw i rs pc next = of_immediate Addiw i rs
+effect Slliw i rs pc next = of_immediate Slliw i rs
+effect Srliw i rs pc next = of_immediate Srliw i rs
+effect Sraiw i rs pc next = of_immediate Sraiw i rs
+effect Add i rs pc next = of_registers Add i rs
+effect Sll i rs pc next = of_registers Sll i rs
+effect Slt i rs pc next = of_registers Slt i rs
+effect Sltu i rs pc next = of_registers Sltu i rs
+effect Xor i rs pc next = of_registers Xor i rs
+effect Srl i rs pc next = of_registers Srl i rs
+effect Or i rs pc next = of_registers Or i rs
+effect And i rs pc next = of_registers And i rs
+effect Sub i rs pc next = of_registers Sub i rs
+effect Sra i rs pc next = of_registers Sra i rs
+effect Mul i rs pc next = of_registers Mul i rs
+effect Mulh i rs pc next = of_registers Mulh i rs
+effect Mulhsu i rs pc next = of_registers Mulhsu i rs
+effect Mulhu i rs pc next = of_registers Mulhu i rs
+effect Div i rs pc next = of_registers Div i rs
+effect Divu i rs pc next = of_registers Divu i rs
+effect Rem i rs pc next = of_registers Rem i rs
+effect Remu i rs pc next = of_registers Remu i rs
+effect Addw i rs pc next = of_registers Addw i rs
+effect Sllw i rs pc next = of_registers Sllw i rs
+effect Srlw i rs pc next = of_registers Srlw i rs
+effect Subw i rs pc next = of_registers Subw i rs
+effect Sraw i rs pc next = of_registers Sraw i rs
+effect Mulw i rs pc next = of_registers Mulw i rs
+effect Divw i rs pc next = of_registers Divw i rs
+effect Divuw i rs pc next = of_registers Divuw i rs
+effect Remw i rs pc next = of_registers Remw i rs
+effect Remuw i rs pc next = of_registers Remuw i rs
+effect Fence i rs pc next = Continue
+effect FenceI i rs pc next = Continue
+effect Ecall i rs pc next = EnvironmentCall
+effect Ebreak i rs pc next = Breakpoint
+effect Sret i rs pc next = SupervisorReturn
+effect Wfi i rs pc next = WaitForInterrupt
+effect SfenceVma i rs pc next = FenceTranslations
+effect Csrrw i rs pc next = access_csr (Written (register rs i.rs1)) i
+effect Csrrs i rs pc next = access_csr (unless_zero i.rs1 (BitsSet (register rs i.rs1))) i
+effect Csrrc i rs pc next = access_csr (unless_zero i.rs1 (BitsCleared (register rs i.rs1))) i
+effect Csrrwi i rs pc next = access_csr (Written i.rs1) i
+effect Csrrsi i rs pc next = access_csr (unless_zero i.rs1 (BitsSet i.rs1)) i
+effect Csrrci i rs pc next = access_csr (unless_zero i.rs1 (BitsCleared i.rs1)) i
+effect LrW i rs pc next = LoadReserved 4 (register rs i.rs1) i.rd
+effect LrD i rs pc next = LoadReserved 8 (register rs i.rs1) i.rd
+effect ScW i rs pc next = StoreConditional 4 (register rs i.rs1) (low_bytes 4 (register rs i.rs2)) i.rd
+effect ScD i rs pc next = StoreConditional 8 (register rs i.rs1) (low_bytes 8 (register rs i.rs2)) i.rd
+effect AmoswapW i rs pc next = modify_at AmoswapW 4 i rs
+effect AmoswapD i rs pc next = modify_at AmoswapD 8 i rs
+effect AmoaddW i rs pc next = modify_at AmoaddW 4 i rs
+effect AmoaddD i rs pc next = modify_at AmoaddD 8 i rs
+effect AmoxorW i rs pc next = modify_at AmoxorW 4 i rs
+effect AmoxorD i rs pc next = modify_at AmoxorD 8 i rs
+effect AmoandW i rs pc next = modify_at AmoandW 4 i rs
+effect AmoandD i rs pc next = modify_at AmoandD 8 i rs
+effect AmoorW i rs pc next = modify_at AmoorW 4 i rs
+effect AmoorD i rs pc next = modify_at AmoorD 8 i rs
+effect AmominW i rs pc next = modify_at AmominW 4 i rs
+effect AmominD i rs pc next = modify_at AmominD 8 i rs
+effect AmomaxW i rs pc next = modify_at AmomaxW 4 i rs
+effect AmomaxD i rs pc next = modify_at AmomaxD 8 i rs
+effect AmominuW i rs pc next = modify_at AmominuW 4 i rs
+effect AmominuD i rs pc next = modify_at AmominuD 8 i rs
+effect AmomaxuW i rs pc next = modify_at AmomaxuW 4 i rs
+effect AmomaxuD i rs pc next = modify_at AmomaxuD 8 i rs
 
 -- the effect of an instruction
-unfoldable pub effect_of : Insn → List ℕ → ℕ → Action
-effect_of i registers pc = effect (operation_at i.row) i registers pc
+unfoldable pub effect_of : Insn → List ℕ → (pc next : ℕ) → Action
+effect_of i registers pc next = effect (operation_at i.row) i registers pc next

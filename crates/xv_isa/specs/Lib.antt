@@ -1,5 +1,6 @@
 pub mod Effects
 pub mod Encoding
+pub mod Length
 pub mod Operands
 pub mod Results
 pub mod Rows

@@ -4,7 +4,7 @@ use Rattle.xv_mem.specs.Bytes.{word_at, put, put_word}
 use Rattle.xv_isa.specs.Effects.{effect_of}
 use Rattle.xv_isa.specs.Operands.{decode_of}
 use Rattle.xv_isa.specs.Rows.{row_of, rows, form_of, operation_at}
-use Rattle.xv_csr.specs.Kept.{kept_stvec, kept_sie}
+use Rattle.xv_csr.specs.Kept.{kept_stvec, kept_sie, kept_sstatus}
 use Rattle.xv_csr.specs.Pending.{chosen_interrupt, pending, sip_of}
 use Rattle.xv_csr.specs.Reset.{reset_csrs}
 use Rattle.xv_csr.specs.Table.{csr_read, csr_written, register_of}
@@ -16,12 +16,12 @@ use Rattle.xv_lone.specs.declared.vcpu.HartState.{HartState}
 use Rattle.xv_lone.specs.declared.vcpu.HartState.TheVariants.{Started, Waiting, Suspended, Stopped}
 use Rattle.xv_lone.specs.Plan.{Plan, flat_base}
 use Rattle.xv_lone.specs.Machine.{Machine}
-use Rattle.xv_lone.specs.Step.{lone_step}
+use Rattle.xv_lone.specs.Step.{answered, lone_step}
 use Rattle.xv_lone.specs.declared.vcpu.TurnEnd.{TurnEnd}
-use Rattle.xv_lone.specs.declared.vcpu.TurnEnd.TheVariants.{Spent, Waits, Stops}
+use Rattle.xv_lone.specs.declared.vcpu.TurnEnd.TheVariants.{Spent, Waits, Stops, Halted, Rebooted}
 use Rattle.xv_lone.specs.Ready.{is_ready}
 use Rattle.xv_lone.specs.Turn.{iterate, whole_turn, turn, visited, steps, ending}
-use Rattle.xv_lone.specs.Journal.{Entry, Born, Load, Kick, Turn, replay}
+use Rattle.xv_lone.specs.Journal.{Entry, Born, Changed, Load, Kick, Turn, replay}
 
 plan : Plan
 plan = record { regions = record { base = flat_base; size = 64 } ∷ []; starts = flat_base ∷ [] }
@@ -36,7 +36,7 @@ memory_of (word ∷ words) = bytes_of 4 word ++ memory_of words
 
 -- born at clock 50, with these words, and kicked; then turns at these clocks
 journal : List ℕ → List ℕ → List Entry
-journal words clocks = Born 50 ∷ Load flat_base (memory_of words) ∷ Kick ∷ map (λ clock. Turn 0 clock) clocks
+journal words clocks = Born 50 ∷ Changed (Load flat_base (memory_of words)) ∷ Changed Kick ∷ map (λ clock. Changed (Turn 0 clock)) clocks
 
 hart_number : HartState → ℕ
 hart_number Started = 0
@@ -72,6 +72,8 @@ end_number : TurnEnd → ℕ
 end_number Spent = 0
 end_number Waits = 1
 end_number Stops = 2
+end_number Halted = 3
+end_number Rebooted = 4
 
 -- whether VCPU 0 is ready, how its turn ends, and where each of its lone steps began; and whether it is ready
 -- after that
@@ -80,6 +82,22 @@ turn_shows None = []
 turn_shows (Some m) =
     bit (is_ready 0 0 m) ∷ end_number (ending plan 0 0 m) ∷ steps plan 0 0 m
     ∷ map (λ c. c.pc - flat_base) (visited plan 0 0 m) ++ bit (is_ready 0 0 (turn plan 0 0 m)) ∷ []
+
+-- how a turn ends, the number of its lone steps, and what is seen of the VCPU after it
+end_shows : List ℕ → Option Machine → List ℕ
+end_shows ks None = []
+end_shows ks (Some m) = end_number (ending plan 0 0 m) ∷ steps plan 0 0 m ∷ vcpu_shows ks (slice_get (turn plan 0 0 m).vcpus 0)
+
+-- two VCPUs, of which the second starts at offset 16
+pair : Plan
+pair = record plan { starts = flat_base ∷ (flat_base + 16) ∷ [] }
+
+-- VCPU h of the pair: whether it is ready, how its turn ends and after how many steps; and where both are then
+pair_shows : ℕ → Option Machine → List ℕ
+pair_shows h None = []
+pair_shows h (Some m) =
+    bit (is_ready h 0 m) ∷ end_number (ending pair h 0 m) ∷ steps pair h 0 m
+    ∷ vcpu_shows (7 ∷ []) (slice_get (turn pair h 0 m).vcpus 0) ++ vcpu_shows (7 ∷ []) (slice_get (turn pair h 0 m).vcpus 1)
 
 -- x5 is the address of offset 32
 at_x5 : List ℕ → List ℕ
@@ -106,6 +124,18 @@ table =
     ∷ (shows (0x00500593 ∷ 0x00000073 ∷ 0x10500073 ∷ []) (50 ∷ []) (10 ∷ 11 ∷ []), 1 ∷ 12 ∷ (2 ^ 64 - 2) ∷ 0 ∷ [])
     -- time is the clock less the birth
     ∷ (shows (0xc01023f3 ∷ 0x10500073 ∷ []) (80 ∷ []) (7 ∷ []), 1 ∷ 8 ∷ 30 ∷ [])
+    -- before its birth's clock guest time is past 2^64, and below it again
+    ∷ (shows (0xc01023f3 ∷ 0x10500073 ∷ []) (20 ∷ []) (7 ∷ []), 1 ∷ 8 ∷ (2 ^ 64 - 30) ∷ [])
+    -- at 2^64 - 1 it reaches the timer's compare of a reset: WFI goes on where the timer's interrupt is enabled,
+    -- and an interrupt is taken where SIE is set too
+    ∷ (shows (0x02000313 ∷ 0x10431073 ∷ 0x10500073 ∷ 0x00100393 ∷ 0x10401073 ∷ 0x10500073 ∷ []) (49 ∷ []) (7 ∷ []), 1 ∷ 24 ∷ 1 ∷ [])
+    ∷ (of_machine vcpu_trap (replay plan (journal (0x00000297 ∷ 0x01c28293 ∷ 0x10529073 ∷ 0x02000313 ∷ 0x10431073 ∷ 0x10015073 ∷ 0x00000013 ∷ 0x0000006f ∷ []) (49 ∷ []))), (2 ^ 63 + 5) ∷ (flat_base + 24) ∷ 0 ∷ [])
+    -- a turn that is spent: a loop of two instructions
+    ∷ (end_shows (7 ∷ []) (replay plan (journal (0x00138393 ∷ 0xffdff06f ∷ []) [])), 0 ∷ 1000 ∷ 0 ∷ 0 ∷ 500 ∷ [])
+    -- of two VCPUs a kick starts the first alone, and its turn leaves the second; a turn of the second, which is
+    -- stopped, has no step
+    ∷ (pair_shows 0 (replay pair (journal (0x00100393 ∷ 0x10500073 ∷ []) [])), 1 ∷ 1 ∷ 2 ∷ 1 ∷ 8 ∷ 1 ∷ 3 ∷ 16 ∷ 0 ∷ [])
+    ∷ (pair_shows 1 (replay pair (journal (0x00100393 ∷ 0x10500073 ∷ []) [])), 0 ∷ 2 ∷ 0 ∷ 0 ∷ 0 ∷ 0 ∷ 3 ∷ 16 ∷ 0 ∷ [])
     -- a turn of two steps, the second of which waits; and a guest that wasn't kicked
     ∷ (turn_shows (replay plan (journal (0x00100393 ∷ 0x10500073 ∷ []) [])), 1 ∷ 1 ∷ 2 ∷ 0 ∷ 4 ∷ 0 ∷ [])
     ∷ (turn_shows (replay plan (Born 0 ∷ [])), 0 ∷ 2 ∷ 0 ∷ 0 ∷ [])
@@ -116,5 +146,5 @@ table =
     ∷ []
 
 the_rows : map (λ r. r.0) table ≡ map (λ r. r.1) table
-unfolding plan bytes_of memory_of journal hart_number vcpu_shows vcpu_trap of_machine shows traps bit end_number turn_shows at_x5 handled table replay ending visited steps turn whole_turn iterate lone_step step word_at put put_word decode_of row_of rows form_of operation_at effect_of chosen_interrupt pending sip_of csr_read csr_written register_of trap_csrs handler return_csrs returns_to_user kept_stvec kept_sie reset_csrs verdict
+unfolding plan bytes_of memory_of journal hart_number vcpu_shows vcpu_trap of_machine shows traps bit end_number turn_shows end_shows pair pair_shows at_x5 handled table replay ending visited answered steps turn whole_turn iterate lone_step step word_at put put_word decode_of row_of rows form_of operation_at effect_of chosen_interrupt pending sip_of csr_read csr_written register_of trap_csrs handler return_csrs returns_to_user kept_stvec kept_sie kept_sstatus reset_csrs verdict
 the_rows = refl

@@ -1,22 +1,23 @@
 -- What happens to a guest from outside, entry by entry. Nothing else changes its machine.
-use Rattle.std.specs.Prelude.{ℕ, List, [], ◌∷◌, length, Option, Some, None}
-use Rattle.xv_lone.specs.declared.vcpu.VcpuView.{VcpuView}
-use Rattle.xv_lone.specs.declared.vcpu.GuestState.TheVariants.{Running}
+use Rattle.std.specs.Prelude.{ℕ, List, [], ◌∷◌, ◌++◌, length, Option, Some, None, option_map}
 use Rattle.xv_lone.specs.Plan.{Plan}
 use Rattle.xv_lone.specs.Cell.{Cell, cell, store_cell}
-use Rattle.xv_lone.specs.Vcpu.{kicked_vcpu}
-use Rattle.xv_lone.specs.Machine.{Machine, new_machine, guest_time}
+use Rattle.xv_lone.specs.Machine.{Machine, new_machine, guest_time, kicked}
 use Rattle.xv_lone.specs.Turn.{turn}
 
-pub data Entry : Type 0 where
-  -- the guest's create, at a clock
-  Born : (clock : ℕ) → Entry
+-- what changes a guest's machine
+pub data Change : Type 0 where
   -- these bytes put into its memory at a guest physical address
-  Load : (gpa : ℕ) (bytes : List ℕ) → Entry
+  Load : (gpa : ℕ) (bytes : List ℕ) → Change
   -- the start of its first VCPU
-  Kick : Entry
+  Kick : Change
   -- a turn of a VCPU, at a clock
-  Turn : (vcpu clock : ℕ) → Entry
+  Turn : (vcpu clock : ℕ) → Change
+
+-- an entry is the guest's birth, at a clock, or a change of its machine
+pub data Entry : Type 0 where
+  Born : (clock : ℕ) → Entry
+  Changed : Change → Entry
 
 -- bytes at a cell, or nowhere
 abbrev pub stored_at : List ℕ → Machine → Option Cell → Machine
@@ -24,31 +25,28 @@ stored_at bytes m None = m
 stored_at bytes m (Some c) = record m { memory = store_cell m.memory c bytes }
 
 -- bytes that don't lie in one region change nothing
-abbrev pub loaded : Plan → ℕ → List ℕ → Machine → Machine
-loaded plan gpa bytes m = stored_at bytes m (cell plan gpa (length bytes))
+abbrev pub after_load : Plan → ℕ → List ℕ → Machine → Machine
+after_load plan gpa bytes m = stored_at bytes m (cell plan gpa (length bytes))
 
--- the first VCPU is started
-abbrev pub first_kicked : List VcpuView → List VcpuView
-first_kicked [] = []
-first_kicked (v ∷ vs) = kicked_vcpu v ∷ vs
+-- the machine that a change makes of one
+abbrev pub after_change : Plan → Change → Machine → Machine
+after_change plan (Load gpa bytes) m = after_load plan gpa bytes m
+after_change plan Kick m = kicked m
+after_change plan (Turn vcpu clock) m = turn plan vcpu (guest_time clock m) m
 
-abbrev pub kicked : Machine → Machine
-kicked m = record m { vcpus = first_kicked m.vcpus; state = Running }
-
--- the machine that an entry makes of one
-abbrev pub changed : Plan → Entry → Machine → Machine
-changed plan (Born clock) m = new_machine plan clock
-changed plan (Load gpa bytes) m = loaded plan gpa bytes m
-changed plan Kick m = kicked m
-changed plan (Turn vcpu clock) m = turn plan vcpu (guest_time clock m) m
+-- ---- births: the machine begins with its birth, and so does the journal
 
 -- before a guest is born there is none, and only its birth makes one
 abbrev pub after_entry : Plan → Option Machine → Entry → Option Machine
-after_entry plan (Some m) e = Some (changed plan e m)
-after_entry plan None (Born clock) = Some (new_machine plan clock)
-after_entry plan None (Load gpa bytes) = None
-after_entry plan None Kick = None
-after_entry plan None (Turn vcpu clock) = None
+after_entry plan m (Born clock) = Some (new_machine plan clock)
+after_entry plan m (Changed change) = option_map (after_change plan change) m
+
+-- a journal with one more entry
+abbrev pub extended : List Entry → Entry → List Entry
+extended journal (Born clock) = Born clock ∷ []
+extended journal (Changed change) = journal ++ Changed change ∷ []
+
+-- ---- replay
 
 abbrev pub replay_from : Plan → Option Machine → List Entry → Option Machine
 replay_from plan m [] = m

@@ -5,6 +5,7 @@ pub mod Machine
 pub mod Step
 pub mod Ready
 pub mod Turn
+pub mod Trail
 pub mod Journal
 pub use Rattle.xv_mem.specs.Bytes
 pub use Rattle.xv_csr.specs.Reset

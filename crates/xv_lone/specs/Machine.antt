@@ -1,11 +1,12 @@
--- The lone machine and its birth.
-use Rattle.std.specs.Prelude.{ℕ, ◌+◌, ◌-◌, ◌%◌, ◌^◌, List, map, replicate}
+-- The lone machine: its birth, and what happens to it whole.
+use Rattle.std.specs.Prelude.{ℕ, ◌+◌, ◌-◌, ◌%◌, ◌^◌, List, map, replicate, Option, Some, None, slice_get, slice_set}
 use Rattle.xv_lone.specs.declared.vcpu.VcpuView.{VcpuView}
+use Rattle.xv_lone.specs.declared.vcpu.Ending.{Ending}
 use Rattle.xv_lone.specs.declared.vcpu.GuestState.{GuestState}
-use Rattle.xv_lone.specs.declared.vcpu.GuestState.TheVariants.{Reset}
+use Rattle.xv_lone.specs.declared.vcpu.GuestState.TheVariants.{Reset, Running, Halted}
 use Rattle.xv_lone.specs.Plan.{Plan}
 use Rattle.xv_lone.specs.Cell.{Memory}
-use Rattle.xv_lone.specs.Vcpu.{reset_vcpu}
+use Rattle.xv_lone.specs.Vcpu.{reset_vcpu, kicked_vcpu}
 
 -- one guest by itself
 pub record Machine : Type 0 where
@@ -26,3 +27,30 @@ new_machine plan clock = record {
 -- guest time: how far the clock is past the guest's birth, modulo 2^64
 abbrev pub guest_time : (clock : ℕ) → Machine → ℕ
 guest_time clock m = (clock + (2 ^ 64 - m.birth)) % 2 ^ 64
+
+-- ---- one VCPU of a machine
+
+-- the machine in which VCPU h is now this
+abbrev pub with_vcpu : (h : ℕ) → VcpuView → Machine → Machine
+with_vcpu h v m = record m { vcpus = slice_set m.vcpus h v }
+
+abbrev pub on_vcpu_of : (h : ℕ) → (VcpuView → VcpuView) → Machine → Option VcpuView → Machine
+on_vcpu_of h change m None = m
+on_vcpu_of h change m (Some v) = with_vcpu h (change v) m
+
+-- the machine after a change of VCPU h, if it has it
+abbrev pub on_vcpu : (h : ℕ) → (VcpuView → VcpuView) → Machine → Machine
+on_vcpu h change m = on_vcpu_of h change m (slice_get m.vcpus h)
+
+-- ---- what happens to a machine whole
+
+-- its first VCPU is started
+abbrev pub kicked : Machine → Machine
+kicked m = record (on_vcpu 0 kicked_vcpu m) { state = Running }
+
+abbrev pub halted : Ending → Machine → Machine
+halted ending m = record m { state = Halted ending }
+
+-- every VCPU has reset values, and the first one is started. Memory and birth stay
+abbrev pub rebooted : Plan → Machine → Machine
+rebooted plan m = kicked (record m { vcpus = map reset_vcpu plan.starts })

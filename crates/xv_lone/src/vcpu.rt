@@ -12,11 +12,27 @@ pub enum HartState {
     Stopped,
 }
 
+/// How a guest came to its end.
+#[derive(Clone, Copy, Debug, PartialEq, Eq)]
+pub enum Ending {
+    /// By a command.
+    Command,
+    /// By its own report of success.
+    Pass,
+    /// By its own report of failure, with a code of its choice.
+    Fail(u16),
+    /// By a shutdown of its own.
+    Shutdown,
+}
+
 /// Where a guest stands between its create and its end.
 #[derive(Clone, Copy, Debug, PartialEq, Eq)]
 pub enum GuestState {
+    /// It was created or reset, and not started since.
     Reset,
     Running,
+    Paused,
+    Halted(Ending),
 }
 
 /// How a turn ends.
@@ -28,6 +44,10 @@ pub enum TurnEnd {
     Waits,
     /// The VCPU is stopped.
     Stops,
+    /// The guest halted.
+    Halted,
+    /// The guest rebooted.
+    Rebooted,
 }
 
 /// The state of one VCPU.

@@ -1,2 +1,3 @@
 pub mod ReadersAgree
+pub mod Lacking
 pub mod Examples

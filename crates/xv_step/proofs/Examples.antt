@@ -1,5 +1,5 @@
 -- Worked rows of the definitions, computed by the checker: short programs over 64 bytes of memory, in which
--- an ask is answered as a machine without devices and without calls would.
+-- an exception is taken, and an ask is answered as a machine without devices and without calls would.
 use Rattle.std.proofs.Common.{◌≡◌, ℕ, zero, suc, ◌+◌, ◌-◌, ◌*◌, ◌/◌, ◌%◌, ◌^◌, ◌==◌, ◌++◌, Bool, true, false, ◌&&◌, if◌then◌else◌, List, [], ◌∷◌, map, length, Some, None, refl, nat_le}
 use Rattle.std.specs.Prelude.{Option, ℤ, pos, negsuc, option_map, replicate, slice_index, slice_set}
 use Rattle.xv_isa.specs.declared.instruction.Insn.{Insn}
@@ -16,7 +16,7 @@ use Rattle.xv_csr.specs.Trap.{trap_csrs, handler, return_csrs, returns_to_user}
 use Rattle.xv_csr.specs.declared.SCsrs.{SCsrs}
 use Rattle.xv_step.specs.Bus.{Bus}
 use Rattle.xv_step.specs.State.{State, set, trapped}
-use Rattle.xv_step.specs.Outcome.{Ask, Entry, Target, Plain, Call, Wait, Outcome, Went, Left, access_kind, access_fault}
+use Rattle.xv_step.specs.Outcome.{Ask, TableEntry, Target, Plain, Call, Wait, Outcome, Went, Raised, Left, access_kind, address_of, access_fault}
 use Rattle.xv_step.specs.Perform.{Inputs}
 use Rattle.xv_step.specs.Step.{step}
 use Rattle.xv_pte.specs.Entry.{kind_of}
@@ -53,14 +53,15 @@ inputs = record { lines = record { timer = false; external = false }; time = 7 }
 -- ---- a machine by itself
 
 answer : State (List ℕ) ℕ → Ask → State (List ℕ) ℕ
-answer s (Entry access va gpa) = trapped (access_fault access) va s
+answer s (TableEntry access va gpa) = trapped (access_fault access) va s
 answer s (Target access va gpa) = trapped (access_fault access) va s
-answer s (Plain access va gpa) = trapped (access_fault (access_kind access)) va s
-answer s Call = record (set 10 (2 ^ 64 - 2) (set 11 0 s)) { pc = s.pc + 4 }
-answer s Wait = record s { pc = s.pc + 4 }
+answer s (Plain access gpa next) = trapped (access_fault (access_kind access)) (address_of access) s
+answer s (Call next) = record (set 10 (2 ^ 64 - 2) (set 11 0 s)) { pc = next }
+answer s (Wait next) = record s { pc = next }
 
 answered : State (List ℕ) ℕ → Outcome (List ℕ) ℕ → State (List ℕ) ℕ
 answered s (Went t) = t
+answered s (Raised cause tval) = trapped cause tval s
 answered s (Left ask) = answer s ask
 
 steps : ℕ → State (List ℕ) ℕ → State (List ℕ) ℕ
@@ -223,7 +224,7 @@ unfolding start mapped sv39.path kind_of ran ran_in_user at_x5 ones table in_use
 the_rows = refl
 
 -- WFI in S is left to who asks for the step
-wait : step bus inputs (start (0x10500073 ∷ [])) ≡ Left Wait
+wait : step bus inputs (start (0x10500073 ∷ [])) ≡ Left (Wait 0x8000_0004)
 unfolding start memory_of bytes_of number_at bus inputs base step decode_of row_of rows form_of operation_at effect_of chosen_interrupt pending sip_of reset_csrs sv39.verdict
 wait = refl
 

@@ -1,2 +1,4 @@
+pub mod WidthLemmas
 pub mod BusLemmas
+pub mod NextLemmas
 pub mod Examples

@@ -1,7 +1,8 @@
 -- The state of a hart between two steps.
 use Rattle.std.specs.Prelude.{ℕ, ◌==◌, Bool, false, if◌then◌else◌, List, Option, Some, None, slice_set}
 use Rattle.xv_csr.specs.declared.SCsrs.{SCsrs}
-use Rattle.xv_csr.specs.Bits.{has_bit}
+use Rattle.xv_base.specs.Bits.{has_bit}
+use Rattle.xv_csr.specs.Fields.{sum_bit, mxr_bit}
 use Rattle.xv_csr.specs.Trap.{trap_csrs, handler}
 use Rattle.xv_pte.specs.declared.access.View.{View}
 
@@ -43,11 +44,11 @@ trapped cause tval s = record s {
   csrs = trap_csrs s.csrs s.user cause tval s.pc;
 }
 
--- what decides on the accesses of the hart: SUM is bit 18 of sstatus, and MXR bit 19
+-- what decides on the accesses of the hart
 abbrev pub view : {M P : Type 0} → State M P → View
 view s = record {
   satp = s.csrs.satp;
   user = s.user;
-  sum = has_bit 18 s.csrs.sstatus;
-  mxr = has_bit 19 s.csrs.sstatus;
+  sum = has_bit sum_bit s.csrs.sstatus;
+  mxr = has_bit mxr_bit s.csrs.sstatus;
 }

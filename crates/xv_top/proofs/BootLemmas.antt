@@ -10,13 +10,15 @@ use Rattle.xv_top.specs.declared.command.Command.{Command}
 use Rattle.xv_top.specs.declared.manager.Manager.{Manager}
 use Rattle.xv_hart.specs.declared.machine.Machine.{Machine}
 use Rattle.xv_hart.specs.Hart.{taken_by}
+use Rattle.xv_hart.specs.Machine.{area_of}
 use Rattle.xv_top.specs.World.{World, first_world}
 use Rattle.xv_top.specs.Manager.{world_of, guests_of}
 use Rattle.xv_top.specs.Script.{commands, commands_of, lines}
 use Rattle.xv_top.specs.Texts.{script_text}
-use Rattle.xv_top.specs.Transcript.{answers, world_after, work_after, transcript, transcript_of, pool_frames}
+use Rattle.xv_top.specs.Transcript.{answers, world_after, work_after, transcript, transcript_of}
+use Rattle.xv_top.specs.Layout.{memory_size, pool_frames}
 use Rattle.xv_top.proofs.JournalLemmas.{replayed}
-use Rattle.xv_top.specs.Boot.{IsTextOf, IsScriptOf, IsServed, IsRun, IsRefused, IsCutShort, HoldsWorld, emptied, most_read}
+use Rattle.xv_top.specs.Boot.{IsTextOf, IsScriptOf, AllRan, IsServed, IsRun, IsRefused, IsCutShort, HoldsWorld, emptied, most_read}
 
 cases_le : (m n : ℕ) → (m ≤ n) ⊎ (n < m)
 cases_le m n = swap (cases_lt n m)
@@ -98,6 +100,7 @@ module _ (mib : ℕ) (left_old left_new taken_old taken_new : Option (List ℕ))
       grammar = sym (commands_same left_old text told) ∙ served.grammar;
       taken = served.taken ∙ ap (taken_with taken_old) (transcript_same mib left_old text told);
       size = served.size;
+      area = served.area;
       memory = served.memory;
       journals = served.journals;
       stepped = served.stepped;
@@ -126,13 +129,15 @@ module _ (mib : ℕ) (text : List ℕ) (cs all : List Command) (w : World) (gram
   pub answers_are : answers w all ≡ transcript mib text
   answers_are = ap (answers w) same ∙ (ap (λ x. answers x cs) start ∙ sym (transcript_some mib text cs grammar))
 
-  pub served_is : (taken_old taken_new : Option (List ℕ)) (machine : Machine) (m : Manager) → taken_new ≡ taken_with taken_old (answers w all) → length machine.mem ≡ 4096 * (256 * mib) → world_of m machine.mem ≡ world_after w all → work_after w all ≤ taken_by machine.hart → IsServed mib text taken_old taken_new machine
-  served_is taken_old taken_new machine m taken size world work = record {
+  pub served_is : (taken_old taken_new : Option (List ℕ)) (before machine : Machine) (m : Manager) → length before.mem ≡ memory_size mib → before.area ≡ area_of mib 0
+      → AllRan all w (world_of m machine.mem) taken_old taken_new before machine → IsServed mib text taken_old taken_new machine
+  served_is taken_old taken_new before machine m size area ran = record {
     cs = cs;
     grammar = grammar;
-    taken = taken ∙ ap (taken_with taken_old) answers_are;
-    size = size;
-    memory = subst (λ x. HoldsWorld machine.mem x.guests) (world ∙ (ap (world_after w) same ∙ ap (λ x. world_after x cs) start)) (holds_world m machine.mem);
+    taken = ran.taken ∙ ap (taken_with taken_old) answers_are;
+    size = ran.size ∙ size;
+    area = ran.area ∙ area;
+    memory = subst (λ x. HoldsWorld machine.mem x.guests) (ran.world ∙ (ap (world_after w) same ∙ ap (λ x. world_after x cs) start)) (holds_world m machine.mem);
     journals = replayed (pool_frames mib) cs;
-    stepped = omega (arith, work, ap (work_after w) same, ap (λ x. work_after x cs) start);
+    stepped = omega (arith, ran.work, ap (work_after w) same, ap (λ x. work_after x cs) start);
   }

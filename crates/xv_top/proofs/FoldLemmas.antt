@@ -5,7 +5,7 @@ use Rattle.xv_outside.specs.Outside.{taken_with, TookFront}
 use Rattle.xv_outside.proofs.Told.{taken_with_both, taken_with_none, took_front_after, took_front_before}
 use Rattle.xv_top.specs.declared.command.Command.{Command}
 use Rattle.xv_top.specs.World.{World}
-use Rattle.xv_top.specs.Answer.{answer, work_in}
+use Rattle.xv_top.specs.Answer.{answer}
 use Rattle.xv_top.specs.Transcript.{answers, world_after, work_after}
 
 -- the first made commands were run, from the world first to now: what they answered was taken
@@ -38,7 +38,7 @@ module _ (w : World) (c : Command) (cs : List Command) where
   unfolding world_after
   world_cons = refl
 
-  work_cons : work_after w (c ∷ cs) ≡ work_in w c + work_after (answer w c).world cs
+  work_cons : work_after w (c ∷ cs) ≡ (answer w c).work + work_after (answer w c).world cs
   unfolding work_after
   work_cons = refl
 
@@ -56,10 +56,10 @@ module _ (cs : List Command) (made : ℕ) (first now after : World) (taken_first
       ∙ (ap (λ t. t ++ answers (answer now c).world (drop (made + 1) cs)) (sym printed)
       ∙ ap (λ w. text ++ answers w (drop (made + 1) cs)) (sym left)))
 
-  pub answered_more : taken_after ≡ taken_with taken_now text → stepped + work_in now c ≤ stepped_after → IsAnswered cs (made + 1) first after taken_first taken_after stepped_after
+  pub answered_more : taken_after ≡ taken_with taken_now text → stepped + (answer now c).work ≤ stepped_after → IsAnswered cs (made + 1) first after taken_first taken_after stepped_after
   answered_more taken work = record {
     printed = so_far.printed ++ text;
-    worked = so_far.worked + work_in now c;
+    worked = so_far.worked + (answer now c).work;
     taken = taken ∙ (ap (λ t. taken_with t text) so_far.taken ∙ taken_with_both taken_first so_far.printed text);
     answers_whole = append_assoc so_far.printed text (answers after (drop (made + 1) cs)) ∙ (ap (λ t. so_far.printed ++ t) (sym answers_left) ∙ so_far.answers_whole);
     world_whole = ap (λ w. world_after w (drop (made + 1) cs)) left ∙ (sym (world_cons now c (drop (made + 1) cs)) ∙ (ap (world_after now) (sym rest_is) ∙ so_far.world_whole));

@@ -6,15 +6,16 @@ use Rattle.xv_mem.specs.Bytes.{range, put, put_word, word_at}
 use Rattle.xv_mem.proofs.Puts.{range-put_inside, range-put_outside, length-put}
 use Rattle.xv_mem.proofs.Words.{word_at-range, range-put_word_inside, range-put_word_outside, length-put_word}
 use Rattle.xv_step.specs.Bus.{Spot}
-use Rattle.xv_step.proofs.BusLemmas.{AreJoined}
+use Rattle.xv_step.proofs.BusLemmas.{AreJoined, Nothing}
 use Rattle.xv_hart.specs.Window.{window_bus, host_of}
 use Rattle.xv_lone.specs.Plan.{flat, flat_base}
 use Rattle.xv_lone.specs.Machine.{Machine}
 use Rattle.xv_lone.specs.Cell.{Cell, Memory, cell}
 use Rattle.xv_lone.specs.Step.{lone_bus}
-use Rattle.xv_lone.specs.Journal.{loaded, stored_at}
+use Rattle.xv_lone.specs.Journal.{after_load, stored_at}
 use Rattle.xv_top.specs.declared.guest.Guest.{Guest}
-use Rattle.xv_top.specs.Guest.{lone_of, host_base, host_end, window_of, cell_at, SameElsewhere}
+use Rattle.xv_top.specs.Guest.{lone_of, host_end, window_of, cell_at, SameElsewhere}
+use Rattle.xv_top.specs.Layout.{host_base}
 
 -- whether n bytes at a guest physical address lie in the guest's memory
 abbrev within : Guest → ℕ → ℕ → Bool
@@ -34,7 +35,18 @@ seen_memory g bytes = range bytes host_base (4096 * g.pages) ∷ []
 -- host bytes that have the guest's memory, and outside of it are those of the turn's start
 pub record IsGoodFor (g : Guest) (first bytes : List ℕ) : Type 0 where
   pub fits : host_end g ≤ length bytes
-  pub elsewhere : SameElsewhere g first bytes
+  pub elsewhere : SameElsewhere (host_end g) first bytes
+
+-- nothing changed, or one change came after the other
+pub same_elsewhere : (end : ℕ) (bytes : List ℕ) → SameElsewhere end bytes bytes
+same_elsewhere end bytes = record { size = refl; below = refl; above = refl }
+
+pub elsewhere_both : (end : ℕ) (first bytes now : List ℕ) → SameElsewhere end first bytes → SameElsewhere end bytes now → SameElsewhere end first now
+elsewhere_both end first bytes now one two = record {
+  size = two.size ∙ one.size;
+  below = two.below ∙ one.below;
+  above = ap (λ n. range now end (n - end)) (sym one.size) ∙ (two.above ∙ (ap (λ n. range bytes end (n - end)) one.size ∙ one.above));
+}
 
 pub good_first : (g : Guest) (first : List ℕ) → host_end g ≤ length first → IsGoodFor g first first
 good_first g first fits = record { fits = fits; elsewhere = record { size = refl; below = refl; above = refl } }
@@ -81,10 +93,10 @@ spot_found true at spot e = (refl, some_place e)
     some_place e = cc
 spot_found false at spot e = cc
 
-pub joined : (g : Guest) (first : List ℕ) → AreJoined (lone_bus (flat g.pages)) (window_bus (window_of g)) (seen_memory g) cell_at (IsGoodFor g first) (StandsIn g)
+pub joined : (g : Guest) (first : List ℕ) → AreJoined (lone_bus (flat g.pages)) (window_bus (window_of g)) (seen_memory g) cell_at (IsGoodFor g first) (StandsIn g) Nothing
 joined g first = record {
-  find = λ width gpa. found_same (within g gpa width) (gpa - flat_base);
-  stands = λ width gpa spot found.
+  find = λ width gpa access. inl (found_same (within g gpa width) (gpa - flat_base));
+  stands = λ width gpa spot access found.
       let there = spot_found (within g gpa width) (host_base + (gpa - flat_base)) spot found in
       let fits = within_fits g gpa width there.0 in
       record { first = omega (arith, there.1); last = omega (arith, there.1, fits) };
@@ -112,7 +124,7 @@ found_there true x y e = (refl, cc)
 found_there false x y e = cc
 
 -- bytes put where the window leads are a load of the lone machine
-pub same_load : (g : Guest) (mem bytes : List ℕ) (gpa at : ℕ) → host_base + 4096 * g.pages ≤ length mem → host_of (window_of g) (length bytes) gpa ≡ Some at → lone_of g (put mem at bytes) ≡ loaded (flat g.pages) gpa bytes (lone_of g mem)
+pub same_load : (g : Guest) (mem bytes : List ℕ) (gpa at : ℕ) → host_base + 4096 * g.pages ≤ length mem → host_of (window_of g) (length bytes) gpa ≡ Some at → lone_of g (put mem at bytes) ≡ after_load (flat g.pages) gpa bytes (lone_of g mem)
 same_load g mem bytes gpa at fits found =
     let offset : ℕ = gpa - flat_base in
     let there = found_there (within g gpa (length bytes)) (host_base + offset) at found in
@@ -122,7 +134,7 @@ same_load g mem bytes gpa at fits found =
     ∙ sym (ap stored there.0))
 
 -- and no other host byte changes
-pub load_elsewhere : (g : Guest) (mem bytes : List ℕ) (gpa at : ℕ) → host_end g ≤ length mem → host_of (window_of g) (length bytes) gpa ≡ Some at → SameElsewhere g mem (put mem at bytes)
+pub load_elsewhere : (g : Guest) (mem bytes : List ℕ) (gpa at : ℕ) → host_end g ≤ length mem → host_of (window_of g) (length bytes) gpa ≡ Some at → SameElsewhere (host_end g) mem (put mem at bytes)
 load_elsewhere g mem bytes gpa at fits found =
     let offset : ℕ = gpa - flat_base in
     let there = found_there (within g gpa (length bytes)) (host_base + offset) at found in

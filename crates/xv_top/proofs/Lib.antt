@@ -1,7 +1,7 @@
 mod TextLemmas
 mod ScriptLemmas
-pub mod BuiltLemmas
 mod GuestLemmas
+mod SimulationLemmas
 mod MonitorLemmas
 mod TurnLemmas
 mod NeedLemmas

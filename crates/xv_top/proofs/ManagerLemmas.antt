@@ -1,26 +1,29 @@
 -- How the manager's guest, clock and counts are the world, command by command.
-use Rattle.std.proofs.Common.{◌≡◌, ℕ, zero, suc, slice_get, ◌+◌, ◌-◌, ◌*◌, ◌^◌, ◌<◌, ◌≤◌, Bool, true, false, cond, ltb, List, [], ◌∷◌, length, replicate, Option, Some, None, is_some, option_map, map, find, refl, sym, ap, ◌∙◌, arith}
+use Rattle.std.proofs.Common.{◌≡◌, ℕ, zero, suc, slice_get, ◌+◌, ◌-◌, ◌*◌, ◌^◌, ◌<◌, ◌≤◌, Bool, true, false, cond, ltb, List, [], ◌∷◌, ◌++◌, length, replicate, Option, Some, None, is_some, option_map, map, find, codes, subst, refl, sym, ap, ◌∙◌, arith}
 use Rattle.std.specs.Str.{bytes_eq}
 use Rattle.std.proofs.lemmas.Bool.{cond-true}
 use Rattle.xv_mem.specs.Bytes.{range}
 use Rattle.xv_mem.proofs.Puts.{range-replicate}
 use Rattle.xv_lone.specs.declared.vcpu.VcpuView.{VcpuView}
 use Rattle.xv_lone.specs.Plan.{flat, need}
-use Rattle.xv_lone.specs.Cell.{Cell}
+use Rattle.xv_lone.specs.Cell.{Cell, cell}
 use Rattle.xv_lone.specs.Machine.{guest_time}
 use Rattle.xv_lone.specs.Ready as ready
-use Rattle.xv_lone.specs.Journal.{Entry, Load, Turn, changed}
-use Rattle.xv_lone.specs.Turn.{turn}
+use Rattle.xv_lone.specs.Journal.{Change, Load, after_change}
+use Rattle.xv_lone.specs.Journal as change
+use Rattle.xv_lone.specs.Ready.{is_reset}
 use Rattle.std.proofs.lemmas.Slice.Eq.{bytes_eq-Decides}
 use Rattle.xv_csr.proofs.KeptLemmas.{reset_csrs_kept}
 use Rattle.xv_top.specs.declared.guest.Guest.{Guest}
 use Rattle.xv_top.specs.declared.manager.Manager.{Manager}
 use Rattle.xv_top.specs.declared.command.Command.TheVariants.{Flat, Poke, Kick, Regs, Run}
-use Rattle.xv_top.specs.Texts.{frames_text, poked_text}
-use Rattle.xv_top.specs.World.{LiveGuest, World, guest_named, entered, entered_guest, pick, run_of}
-use Rattle.xv_top.specs.Answer.{Answer, answer, created, flat_answer, poke_guest, poke_at, kick_guest, regs_guest, run_answer, most_turns, work_in}
-use Rattle.xv_top.specs.Guest.{live_guest, lone_of, host_base, new_guest, IsHeld}
-use Rattle.xv_top.specs.Manager.{world_of, guests_of, Gives}
+use Rattle.xv_top.specs.Texts.{frames_text, poked_text, kicked_text}
+use Rattle.xv_top.specs.World.{LiveGuest, World, RunSoFar, free, guest_named, with_change, changed_guest, guest_turn, one_turn, pick, run_of}
+use Rattle.xv_top.specs.Answer.{Answer, answer, says, changes, created, flat_answer, refused, poke_guest, poke_at, kick_guest, regs_guest, regs_of_vcpu, run_answer}
+use Rattle.xv_top.specs.Guest.{lone_of, time_of, new_guest, turned, IsPlaced, SameElsewhere}
+use Rattle.xv_top.specs.Layout.{host_base}
+use Rattle.xv_top.specs.Manager.{live_guest, world_of, guests_of, memory_end, Gives, Keeps}
+use Rattle.xv_top.proofs.GuestLemmas.{same_elsewhere}
 
 pub gives_by : (a b : Answer) {printed : List ℕ} {after : World} → a ≡ b → Gives b printed after → Gives a printed after
 gives_by a b e h = record { text = h.text ∙ ap (λ x. x.text) (sym e); world = h.world ∙ ap (λ x. x.world) (sym e) }
@@ -47,13 +50,23 @@ pub run_is : (w : World) (turns : ℕ) → answer w (Run turns) ≡ run_answer w
 unfolding answer
 run_is w turns = refl
 
--- an entry of the one guest's journal
-pub entered_one : (m : Manager) (g h : Guest) (bytes now name : List ℕ) (e : Entry) → m.guest ≡ Some g → bytes_eq g.name name ≡ true → live_guest h now ≡ record (live_guest g bytes) { machine = changed (flat g.pages) e (lone_of g bytes) } → world_of (record m { guest = Some h }) now ≡ entered name e (world_of m bytes)
-entered_one m g h bytes now name e there named same =
+pub keeps_by : (a b : Answer) {m : Manager} {before after : List ℕ} → a ≡ b → Keeps b m before after → Keeps a m before after
+keeps_by a b e h = record { outside = h.outside; all = λ none. h.all (sym (ap (λ x. x.entries) e) ∙ none) }
+
+-- what leaves host memory as it is keeps it
+pub keeps_all : (a : Answer) (m : Manager) (before after : List ℕ) → after ≡ before → Keeps a m before after
+keeps_all a m before after same = record {
+  outside = subst (SameElsewhere (memory_end m.guest) before) (sym same) (same_elsewhere (memory_end m.guest) before);
+  all = λ none. same;
+}
+
+-- a change of the one guest
+pub change_one : (m : Manager) (g h : Guest) (bytes now name : List ℕ) (change : Change) → m.guest ≡ Some g → bytes_eq g.name name ≡ true → live_guest h now ≡ record (live_guest g bytes) { machine = after_change (flat g.pages) change (lone_of g bytes) } → world_of (record m { guest = Some h }) now ≡ with_change name change (world_of m bytes)
+change_one m g h bytes now name change there named same =
     let with_guests : List LiveGuest → World = λ gs. record { pool = m.pool; clock = m.clock; tick = m.tick; turns = m.turns; guests = gs } in
-    let next = record (live_guest g bytes) { machine = changed (flat g.pages) e (lone_of g bytes) } in
+    let next = record (live_guest g bytes) { machine = after_change (flat g.pages) change (lone_of g bytes) } in
     ap (λ x. with_guests (x ∷ [])) (same ∙ sym (cond-true (bytes_eq g.name name) next (live_guest g bytes) named))
-    ∙ sym (ap (λ o. with_guests (map (entered_guest name e) (guests_of o bytes))) there)
+    ∙ sym (ap (λ o. with_guests (map (changed_guest name change) (guests_of o bytes))) there)
 
 pub is_some-map : {A B : Type 0} (f : A → B) (o : Option A) → is_some (option_map f o) ≡ is_some o
 is_some-map f None = refl
@@ -72,7 +85,7 @@ abbrev pub no_guest : Manager → World
 no_guest m = record { pool = m.pool; clock = m.clock; tick = m.tick; turns = m.turns; guests = [] }
 
 abbrev pub no_frames : Manager → ℕ → Answer
-no_frames m pages = record { text = frames_text (need (flat pages)) m.pool; world = no_guest m; entered = [] }
+no_frames m pages = says (no_guest m) (frames_text (need (flat pages)) m.pool)
 
 sub_zero : (n : ℕ) → n - 0 ≡ n
 sub_zero n = omega arith
@@ -80,7 +93,7 @@ sub_zero n = omega arith
 pub flat_alone : (m : Manager) (bytes name : List ℕ) (pages : ℕ) → m.guest ≡ None → flat_answer (world_of m bytes) name pages ≡ cond (ltb m.pool (need (flat pages))) (no_frames m pages) (created (no_guest m) name (flat pages))
 flat_alone m bytes name pages none =
     ap (λ o. flat_answer (record { pool = m.pool; clock = m.clock; tick = m.tick; turns = m.turns; guests = guests_of o bytes }) name pages) none
-    ∙ ap (λ f. cond (ltb f (need (flat pages))) (record { text = frames_text (need (flat pages)) f; world = no_guest m; entered = [] }) (created (no_guest m) name (flat pages))) (sub_zero m.pool)
+    ∙ ap (λ f. cond (ltb f (need (flat pages))) (says (no_guest m) (frames_text (need (flat pages)) f)) (created (no_guest m) name (flat pages))) (sub_zero m.pool)
 
 -- a new guest's memory is zeros, since all host memory is
 pub born : (m : Manager) (bytes name : List ℕ) (pages : ℕ) → bytes ≡ replicate (length bytes) 0 → host_base + 4096 * pages ≤ length bytes → world_of (record m { guest = Some (new_guest name pages m.clock) }) bytes ≡ (created (no_guest m) name (flat pages)).world
@@ -89,9 +102,61 @@ born m bytes name pages zeros fits =
     ap born_with (ap (λ b. range b host_base (4096 * pages)) zeros ∙ range-replicate (length bytes) host_base (4096 * pages) fits)
 
 -- bytes that have a cell are poked
-pub poke_at_some : (w : World) (name : List ℕ) (gpa : ℕ) (bytes : List ℕ) (o : Option Cell) → is_some o ≡ true → poke_at w name gpa bytes o ≡ record { text = poked_text name (length bytes); world = entered name (Load gpa bytes) w; entered = record { name = name; entry = Load gpa bytes } ∷ [] }
+pub poke_at_some : (w : World) (name : List ℕ) (gpa : ℕ) (bytes : List ℕ) (o : Option Cell) → is_some o ≡ true → poke_at w name gpa bytes o ≡ changes w name (Load gpa bytes) (poked_text name (length bytes))
 poke_at_some w name gpa bytes None h = cc
 poke_at_some w name gpa bytes (Some c) h = refl
+
+-- but for a run no command makes lone steps
+pub flat_work : (w : World) (name : List ℕ) (pages : ℕ) → (answer w (Flat name pages)).work ≡ 0
+unfolding answer
+flat_work w name pages =
+    by_cond (is_some (guest_named name w)) _ _ refl
+    (by_cond (ltb 0 (length w.guests)) _ _ refl
+    (by_cond (ltb (free w) (need (flat pages))) _ _ refl refl))
+  where
+    by_cond : (b : Bool) (x y : Answer) → x.work ≡ 0 → y.work ≡ 0 → (cond b x y).work ≡ 0
+    by_cond true x y left right = left
+    by_cond false x y left right = right
+
+pub poke_work : (w : World) (name : List ℕ) (gpa : ℕ) (bytes : List ℕ) → (answer w (Poke name gpa bytes)).work ≡ 0
+unfolding answer
+poke_work w name gpa bytes = by_guest (guest_named name w)
+  where
+    by_cell : (o : Option Cell) → (poke_at w name gpa bytes o).work ≡ 0
+    by_cell None = refl
+    by_cell (Some c) = refl
+
+    by_state : (b : Bool) (o : Option Cell) → (cond b (poke_at w name gpa bytes o) (refused w (codes "state"))).work ≡ 0
+    by_state true o = by_cell o
+    by_state false o = refl
+
+    by_guest : (o : Option LiveGuest) → (poke_guest w name gpa bytes o).work ≡ 0
+    by_guest None = refl
+    by_guest (Some g) = by_state (is_reset g.machine.state) (cell g.plan gpa (length bytes))
+
+pub kick_work : (w : World) (name : List ℕ) → (answer w (Kick name)).work ≡ 0
+unfolding answer
+kick_work w name = by_guest (guest_named name w)
+  where
+    by_state : (b : Bool) → (cond b (changes w name change.Kick (kicked_text name)) (refused w (codes "state"))).work ≡ 0
+    by_state true = refl
+    by_state false = refl
+
+    by_guest : (o : Option LiveGuest) → (kick_guest w name o).work ≡ 0
+    by_guest None = refl
+    by_guest (Some g) = by_state (is_reset g.machine.state)
+
+pub regs_work : (w : World) (name : List ℕ) (vcpu : ℕ) → (answer w (Regs name vcpu)).work ≡ 0
+unfolding answer
+regs_work w name vcpu = by_guest (guest_named name w)
+  where
+    by_vcpu : (o : Option VcpuView) → (regs_of_vcpu w name vcpu o).work ≡ 0
+    by_vcpu None = refl
+    by_vcpu (Some v) = refl
+
+    by_guest : (o : Option LiveGuest) → (regs_guest w name vcpu o).work ≡ 0
+    by_guest None = refl
+    by_guest (Some g) = by_vcpu (slice_get g.machine.vcpus vcpu)
 
 -- the guest is the same, over other host bytes
 pub same_guest : (m : Manager) (g : Guest) (now : List ℕ) → m.guest ≡ Some g → world_of m now ≡ world_of (record m { guest = Some g }) now
@@ -117,19 +182,28 @@ no_vcpu v (suc n) h = refl
 pub same_none : (m : Manager) (bytes : List ℕ) → m.guest ≡ None → world_of m bytes ≡ no_guest m
 same_none m bytes none = ap (λ o. record { pool = m.pool; clock = m.clock; tick = m.tick; turns = m.turns; guests = guests_of o bytes }) none
 
-pub work_is : (w : World) (turns : ℕ) → work_in w (Run turns) ≡ cond (ltb most_turns (w.turns + turns)) 0 (run_of turns w).work
-unfolding work_in
-work_is w turns = refl
-
-pub new_held : (name : List ℕ) (pages clock size : ℕ) → 0 < pages → host_base + 4096 * pages ≤ size → size < 2 ^ 45 → IsHeld (new_guest name pages clock) size
-new_held name pages clock size some fits small = record { some = some; pages = fits; small = small; pc = refl; csrs = reset_csrs_kept }
+pub new_placed : (name : List ℕ) (pages clock size : ℕ) → 0 < pages → host_base + 4096 * pages ≤ size → size < 2 ^ 45 → IsPlaced (new_guest name pages clock) size
+new_placed name pages clock size some fits small = record { some = some; pages = fits; small = small; pc = refl; csrs = reset_csrs_kept }
 
 -- what a turn of the guest is to the world
 module _ (m : Manager) (g h : Guest) (bytes now : List ℕ) (there : m.guest ≡ Some g) (others : h ≡ record g { view = h.view })
-    (machine : lone_of h now ≡ turn (flat g.pages) 0 (guest_time m.clock (lone_of g bytes)) (lone_of g bytes)) where
-  pub turn_entered : world_of (record m { guest = Some h }) now ≡ entered g.name (Turn 0 m.clock) (world_of m bytes)
-  turn_entered =
-      entered_one m g h bytes now g.name (Turn 0 m.clock) there ((bytes_eq-Decides g.name g.name).1 refl)
+    (machine : lone_of h now ≡ turned g m.clock bytes) where
+  pub turn_change : world_of (record m { guest = Some h }) now ≡ with_change g.name (guest_turn (world_of m bytes)) (world_of m bytes)
+  turn_change =
+      change_one m g h bytes now g.name (guest_turn (world_of m bytes)) there ((bytes_eq-Decides g.name g.name).1 refl)
       (ap (λ n. record { name = n; plan = flat h.pages; machine = lone_of h now }) (ap (λ o. o.name) others)
       ∙ (ap (λ n. record { name = g.name; plan = flat n; machine = lone_of h now }) (ap (λ o. o.pages) others)
       ∙ ap (λ l. record { name = g.name; plan = flat g.pages; machine = l }) machine))
+
+-- an idle turn enters nothing into a journal, and every other turn something
+pub idle_kept : (r : RunSoFar) (o : Option LiveGuest) (same : Type 0) → o ≡ None → same → (one_turn r o).entries ≡ [] → (r.entries ≡ []) × same
+idle_kept r None same none is h = (h, is)
+idle_kept r (Some g) same none is h = cc
+
+nonempty : {X : Type 0} (xs : List X) (x : X) → (xs ++ x ∷ []) ≡ [] → ⊥
+nonempty [] x h = cc
+nonempty (y ∷ ys) x h = cc
+
+pub busy_kept : (r : RunSoFar) (o : Option LiveGuest) (g : LiveGuest) (same : Type 0) → o ≡ Some g → (one_turn r o).entries ≡ [] → (r.entries ≡ []) × same
+busy_kept r None g same some h = cc
+busy_kept r (Some other) g same some h = absurd (nonempty r.entries _ h)

@@ -1,208 +1,137 @@
--- A turn of the hart and its monitor over host bytes, seen as the turn of the guest's lone machine.
-use Rattle.std.proofs.Common.{◌≡◌, ℕ, ◌+◌, ◌-◌, ◌<◌, ◌≤◌, true, false, List, [], ◌∷◌, ◌++◌, map, length, slice_get, Some, None, option_map, subst, refl, sym, ap, ◌∙◌, arith}
+-- A turn, lone step by lone step: what is made so far, continued by the rest of the budget, is the whole.
+use Rattle.std.proofs.Common.{◌≡◌, ℕ, ◌+◌, ◌-◌, ◌*◌, ◌<◌, ◌≤◌, Bool, true, false, List, [], ◌∷◌, ◌++◌, length, Some, None, option_map, subst, refl, sym, ap, ◌∙◌, arith}
 use Rattle.std.proofs.lemmas.Bool.{cond-false}
-use Rattle.xv_step.specs.State.{State, held_as}
-use Rattle.xv_step.specs.Outcome.{Outcome, Entry, Target, Plain, Call, Wait, Went, Left}
-use Rattle.xv_step.specs.Perform.{Inputs}
-use Rattle.xv_step.specs.Step.{step}
-use Rattle.xv_step.proofs.BusLemmas as buses
+use Rattle.std.proofs.lemmas.List.{length-append}
 use Rattle.xv_hart.specs.declared.regs.Regs.{Regs}
-use Rattle.xv_hart.specs.Window.{window_bus}
-use Rattle.xv_hart.specs.Step.{state_of, inputs_of, held_of}
 use Rattle.xv_lone.specs.declared.vcpu.HartState.{HartState}
 use Rattle.xv_lone.specs.declared.vcpu.HartState.TheVariants.{Started, Waiting, Suspended, Stopped}
-use Rattle.xv_lone.specs.Plan.{Plan, flat}
-use Rattle.xv_lone.specs.Cell.{Cell, Memory}
-use Rattle.xv_lone.specs.Ready.{may_run}
-use Rattle.xv_lone.specs.Step.{After, after, lone_bus, lone_step, stepped, put_back, inputs_at, Running}
-use Rattle.xv_lone.specs.Machine.{Machine}
 use Rattle.xv_lone.specs.declared.vcpu.VcpuView.{VcpuView}
-use Rattle.xv_lone.specs.Turn.{InTurn, Core, begin, woken, one_more, is_started, iterate, whole_turn, turn, visited, steps, ending, ending_of, ends_as}
+use Rattle.xv_lone.specs.Plan.{Plan}
+use Rattle.xv_lone.specs.Machine.{Machine}
+use Rattle.xv_lone.specs.Ready.{may_run}
+use Rattle.xv_lone.specs.Step.{On, lone_step, stepped}
+use Rattle.xv_lone.specs.Trail.{IsTrail, NoPiece, OneMore, IsPiece}
+use Rattle.xv_lone.specs.Turn.{InTurn, Core, begin, woken, with_step, one_more, is_started, iterate, whole_turn, turn, visited, steps, ending, ending_in, ends_as}
 use Rattle.xv_lone.proofs.IterateLemmas.{iterate_over, iterate_more, iterate_none}
 use Rattle.xv_top.specs.declared.guest.Guest.{Guest}
-use Rattle.xv_top.specs.Guest.{SameElsewhere, host_end, lone_of, window_of, cell_at, view_of, core_of, in_turn, regs_of_guest}
-use Rattle.xv_top.specs.Monitor.{shows, host_after}
-use Rattle.xv_top.proofs.GuestLemmas.{seen_memory, IsGoodFor, StandsIn, joined, good_first}
+use Rattle.xv_top.specs.Guest.{plan_of, lone_of, time_of, view_of, core_of, on_hart_of, after_of, regs_of_guest, turned, turn_ending, turn_begun, IsTurned, Grows}
 
 module _ (g : Guest) (t : ℕ) (first : List ℕ) where
-  -- a state of the hart over host bytes, as one of the lone machine
-  abbrev seen : State (List ℕ) ℕ → State Memory Cell
-  seen s = buses.seen (lone_bus (flat g.pages)) (window_bus (window_of g)) (seen_memory g) cell_at (IsGoodFor g first) (StandsIn g) (joined g first) s
+  -- the guest's turn, with this on the hart and in host memory
+  abbrev in_turn : Regs → List ℕ → List Core → HartState → InTurn
+  in_turn r bytes begun state = record { on_hart = on_hart_of g r bytes state; onward = On; begun = begun }
 
-  abbrev pub IsGood : State (List ℕ) ℕ → Type 0
-  IsGood s = buses.IsGood (lone_bus (flat g.pages)) (window_bus (window_of g)) (seen_memory g) cell_at (IsGoodFor g first) (StandsIn g) (joined g first) s
-
-  abbrev IsOne : Outcome Memory Cell → Outcome (List ℕ) ℕ → Type 0
-  IsOne a b = buses.IsOne (lone_bus (flat g.pages)) (window_bus (window_of g)) (seen_memory g) cell_at (IsGoodFor g first) (StandsIn g) (joined g first) a b
-
-  abbrev seen_after : After (List ℕ) ℕ → After Memory Cell
-  seen_after a = record { state = seen a.state; hart = a.hart }
-
-  abbrev seen_outcome : Outcome (List ℕ) ℕ → Outcome Memory Cell
-  seen_outcome o = buses.seen_outcome (lone_bus (flat g.pages)) (window_bus (window_of g)) (seen_memory g) cell_at (IsGoodFor g first) (StandsIn g) (joined g first) o
-
-  abbrev LeavesGood : Outcome (List ℕ) ℕ → Type 0
-  LeavesGood o = buses.LeavesGood (lone_bus (flat g.pages)) (window_bus (window_of g)) (seen_memory g) cell_at (IsGoodFor g first) (StandsIn g) (joined g first) o
-
-  -- ---- the answers
-
-  after_seen : (inputs : Inputs) (s : State (List ℕ) ℕ) (o : Outcome (List ℕ) ℕ) → after inputs (seen s) (seen_outcome o) ≡ seen_after (after inputs s o)
-  after_seen inputs s (Went u) = refl
-  after_seen inputs s (Left (Entry access va gpa)) = refl
-  after_seen inputs s (Left (Target access va gpa)) = refl
-  after_seen inputs s (Left (Plain access va gpa)) = refl
-  after_seen inputs s (Left Call) = refl
-  after_seen inputs s (Left Wait) = refl
-
-  after_good : (inputs : Inputs) (s : State (List ℕ) ℕ) (o : Outcome (List ℕ) ℕ) → IsGood s → LeavesGood o → IsGood (after inputs s o).state
-  after_good inputs s (Went u) good leaves = leaves
-  after_good inputs s (Left (Entry access va gpa)) good leaves = record { memory = good.memory; held = good.held }
-  after_good inputs s (Left (Target access va gpa)) good leaves = record { memory = good.memory; held = good.held }
-  after_good inputs s (Left (Plain access va gpa)) good leaves = record { memory = good.memory; held = good.held }
-  after_good inputs s (Left Call) good leaves = record { memory = good.memory; held = good.held }
-  after_good inputs s (Left Wait) good leaves = record { memory = good.memory; held = good.held }
-
-  -- ---- one lone step
-
-  abbrev bus_after : Inputs → State (List ℕ) ℕ → After (List ℕ) ℕ
-  bus_after inputs s = after inputs s (step (window_bus (window_of g)) inputs s)
-
-  one : (inputs : Inputs) (s : State (List ℕ) ℕ) → IsGood s → IsOne (step (lone_bus (flat g.pages)) inputs (seen s)) (step (window_bus (window_of g)) inputs s)
-  one inputs s good = buses.step_is_one (lone_bus (flat g.pages)) (window_bus (window_of g)) (seen_memory g) cell_at (IsGoodFor g first) (StandsIn g) (joined g first) s good inputs
-
-  lone_after : (inputs : Inputs) (s : State (List ℕ) ℕ) → IsGood s → after inputs (seen s) (step (lone_bus (flat g.pages)) inputs (seen s)) ≡ seen_after (bus_after inputs s)
-  lone_after inputs s good =
-      ap (after inputs (seen s)) (one inputs s good).seen
-      ∙ after_seen inputs s (step (window_bus (window_of g)) inputs s)
-
-  -- what stands of the hart before each lone step
-  pub record IsOn (r : Regs) (bytes : List ℕ) : Type 0 where
-    pub inputs : inputs_of r ≡ inputs_at t g.view
-    pub window : r.window ≡ window_of g
-    pub good : IsGood (state_of r bytes)
-
-  host_is : (r : Regs) (bytes : List ℕ) → IsOn r bytes → bus_after (inputs_at t g.view) (state_of r bytes) ≡ host_after r bytes
-  host_is r bytes on =
-      ap (λ i. bus_after i (state_of r bytes)) (sym on.inputs)
-      ∙ ap (λ w. after (inputs_of r) (state_of r bytes) (step (window_bus w) (inputs_of r) (state_of r bytes))) (sym on.window)
-
-  module _ (r next : Regs) (bytes now : List ℕ) (hart : HartState) (on : IsOn r bytes) (shown : shows hart next now ≡ host_after r bytes) where
-    lone_state : State Memory Cell
-    lone_state = record { x = r.x; pc = r.pc; user = r.user; csrs = r.csrs; held = held_as cell_at (held_of r.held); memory = seen_memory g bytes }
-
-    after_is : after (inputs_at t g.view) lone_state (step (lone_bus (flat g.pages)) (inputs_at t g.view) lone_state) ≡ seen_after (shows hart next now)
-    unfolding lone_state
-    after_is =
-        lone_after (inputs_at t g.view) (state_of r bytes) on.good
-        ∙ ap seen_after (host_is r bytes on ∙ sym shown)
-
-    good_after : IsGood (state_of next now)
-    good_after =
-        subst (λ a. IsGood a.state) (host_is r bytes on ∙ sym shown)
-        (after_good (inputs_at t g.view) (state_of r bytes) (step (window_bus (window_of g)) (inputs_at t g.view) (state_of r bytes)) on.good (one (inputs_at t g.view) (state_of r bytes) on.good).good)
-
-    abbrev running : Running
-    running = record { machine = lone_of (record g { view = view_of g r Started }) bytes; held = held_as cell_at (held_of r.held) }
-
-    abbrev then_running : Running
-    then_running = record { machine = lone_of (record g { view = view_of g next hart }) now; held = held_as cell_at (held_of next.held) }
-
-    stepped_is : stepped (flat g.pages) 0 t running (view_of g r Started) ≡ then_running
-    unfolding lone_state
-    stepped_is = ap (put_back 0 running (view_of g r Started)) after_is
-
-    lone_step_is : lone_step (flat g.pages) 0 t running ≡ Some then_running
-    unfolding lone_step
-    lone_step_is = ap Some stepped_is
-
-    begun_is : (trail : List Regs) → map core_of trail ++ core_of r ∷ [] ≡ map core_of (trail ++ r ∷ [])
-    begun_is [] = refl
-    begun_is (x ∷ xs) = ap (λ cs. core_of x ∷ cs) (begun_is xs)
-
-    -- the hart's step with its answer is one more lone step
-    pub one_more_is : (trail : List Regs) → one_more (flat g.pages) 0 t (in_turn g r bytes trail Started) ≡ Some (in_turn g next now (trail ++ r ∷ []) hart)
-    one_more_is trail =
-        ap (option_map (λ u. record { running = u; begun = map core_of trail ++ core_of r ∷ [] })) lone_step_is
-        ∙ ap (λ cs. Some (record { running = then_running; begun = cs })) (begun_is trail)
-
-    pub is_on_after : inputs_of next ≡ inputs_of r → next.window ≡ r.window → IsOn next now
-    is_on_after inputs window = record { inputs = inputs ∙ on.inputs; window = window ∙ on.window; good = good_after }
-
-  -- ---- the turn
-
-  not_started : (hart : HartState) → (hart ≡ Started → ⊥) → is_started hart ≡ false
-  not_started Started h = absurd (h refl)
-  not_started Waiting h = refl
-  not_started Suspended h = refl
-  not_started Stopped h = refl
-
-  -- a VCPU that isn't started makes no more steps
-  no_more : (r : Regs) (bytes : List ℕ) (trail : List Regs) (hart : HartState) → (hart ≡ Started → ⊥) → one_more (flat g.pages) 0 t (in_turn g r bytes trail hart) ≡ None
-  no_more r bytes trail hart h = cond-false (is_started hart) _ None (not_started hart h)
-
-  woken_is : (hart : HartState) (called : _) → may_run hart called ≡ true → woken hart ≡ Started
-  woken_is Started called h = refl
-  woken_is Waiting called h = refl
-  woken_is Suspended called h = refl
-  woken_is Stopped called h = cc
-
-  pub begins : (bytes : List ℕ) (called : _) → may_run g.view.hart called ≡ true → begin 0 (lone_of g bytes) ≡ in_turn g (regs_of_guest g t) bytes [] Started
-  begins bytes called may =
-      ap (λ hart. record { running = record { machine = lone_of (record g { view = record g.view { hart = hart } }) bytes; held = None }; begun = [] }) (woken_is g.view.hart called may)
+  abbrev whole : InTurn
+  whole = whole_turn (plan_of g) 0 t (lone_of g first)
 
   -- so many steps of the turn are made, and the rest follow
   pub record IsTurning (made : ℕ) (r : Regs) (bytes : List ℕ) (trail : List Regs) : Type 0 where
-    pub whole : iterate (one_more (flat g.pages) 0 t) (1000 - made) (in_turn g r bytes trail Started) ≡ whole_turn (flat g.pages) 0 t (lone_of g first)
-    pub on : IsOn r bytes
+    pub begun : List Core
+    pub rest : iterate (one_more (plan_of g) 0 t) (1000 - made) (in_turn r bytes begun Started) ≡ whole
+    pub pieces : IsTrail core_of begun trail
 
-  pub turning_starts : (called : _) → may_run g.view.hart called ≡ true → host_end g ≤ length first → IsTurning 0 (regs_of_guest g t) first []
+  woken_is : (state : HartState) (interrupt : Bool) → may_run state interrupt ≡ true → woken state ≡ Started
+  woken_is Started interrupt h = refl
+  woken_is Waiting interrupt h = refl
+  woken_is Suspended interrupt h = refl
+  woken_is Stopped interrupt h = cc
+
+  begins : (interrupt : Bool) → may_run g.view.hart interrupt ≡ true → begin 0 (lone_of g first) ≡ in_turn (regs_of_guest g t) first [] Started
+  begins interrupt may =
+      ap (λ state. record { on_hart = record { machine = lone_of (record g { view = record g.view { hart = state } }) first; held = None }; onward = On; begun = [] }) (woken_is g.view.hart interrupt may)
+
+  pub turning_starts : (interrupt : Bool) → may_run g.view.hart interrupt ≡ true → IsTurning 0 (regs_of_guest g t) first []
   unfolding whole_turn
-  turning_starts called may fits = record {
-    whole = ap (iterate (one_more (flat g.pages) 0 t) 1000) (sym (begins first called may));
-    on = record { inputs = refl; window = refl; good = record { memory = good_first g first fits; held = tt {0} } };
+  turning_starts interrupt may = record {
+    begun = [];
+    rest = ap (iterate (one_more (plan_of g) 0 t) 1000) (sym (begins interrupt may));
+    pieces = NoPiece;
   }
 
-  module _ (made : ℕ) (r next : Regs) (bytes now : List ℕ) (trail : List Regs) (hart : HartState) (more : made < 1000)
-      (turning : IsTurning made r bytes trail) (shown : shows hart next now ≡ host_after r bytes) where
-    whole_after : iterate (one_more (flat g.pages) 0 t) (1000 - (made + 1)) (in_turn g next now (trail ++ r ∷ []) hart) ≡ whole_turn (flat g.pages) 0 t (lone_of g first)
-    whole_after =
-        sym (iterate_more (one_more (flat g.pages) 0 t) (1000 - (made + 1)) (1000 - made) (in_turn g r bytes trail Started) (in_turn g next now (trail ++ r ∷ []) hart) (one_more_is r next bytes now hart turning.on shown trail) (omega arith))
-        ∙ turning.whole
+  module _ (r next : Regs) (bytes now : List ℕ) (state : HartState)
+      (made_step : after_of g next now state ≡ stepped (plan_of g) 0 t (on_hart_of g r bytes Started) (view_of g r Started)) where
+    -- the hart's step with its answer is one more lone step
+    one_more_is : (begun : List Core) → one_more (plan_of g) 0 t (in_turn r bytes begun Started) ≡ Some (in_turn next now (begun ++ core_of r ∷ []) state)
+    unfolding lone_step
+    one_more_is begun = ap (λ a. Some (with_step (in_turn r bytes begun Started) (view_of g r Started) a)) (sym made_step)
 
-    pub turning_goes_on : hart ≡ Started → inputs_of next ≡ inputs_of r → next.window ≡ r.window → IsTurning (made + 1) next now (trail ++ r ∷ [])
-    turning_goes_on started inputs window = record {
-      whole = ap (λ h. iterate (one_more (flat g.pages) 0 t) (1000 - (made + 1)) (in_turn g next now (trail ++ r ∷ []) h)) (sym started) ∙ whole_after;
-      on = is_on_after r next bytes now hart turning.on shown inputs window;
-    }
+    module _ (made : ℕ) (more : made < 1000) (before after : List Regs) (turning : IsTurning made r bytes before) (grows : Grows g r before after) where
+      begun_after : List Core
+      begun_after = turning.begun ++ core_of r ∷ []
 
-    pub stays_elsewhere : SameElsewhere g first now
-    stays_elsewhere = (good_after r next bytes now hart turning.on shown).memory.elsewhere
+      pieces_after : IsTrail core_of begun_after after
+      unfolding begun_after
+      pieces_after =
+          subst (IsTrail core_of (turning.begun ++ core_of r ∷ [])) (sym grows.grown)
+          (OneMore turning.begun before (core_of r) grows.piece turning.pieces grows.shown)
 
-    pub turning_stops : (hart ≡ Started → ⊥) → in_turn g next now (trail ++ r ∷ []) hart ≡ whole_turn (flat g.pages) 0 t (lone_of g first)
-    turning_stops stopped =
-        sym (iterate_over (one_more (flat g.pages) 0 t) (1000 - (made + 1)) (in_turn g next now (trail ++ r ∷ []) hart) (no_more next now (trail ++ r ∷ []) hart stopped))
-        ∙ whole_after
+      rest_after : iterate (one_more (plan_of g) 0 t) (1000 - (made + 1)) (in_turn next now begun_after state) ≡ whole
+      unfolding begun_after
+      rest_after =
+          sym (iterate_more (one_more (plan_of g) 0 t) (1000 - (made + 1)) (1000 - made) (in_turn r bytes turning.begun Started) (in_turn next now (turning.begun ++ core_of r ∷ []) state) (one_more_is turning.begun) (omega arith))
+          ∙ turning.rest
 
-  pub turning_ends : (made : ℕ) (r : Regs) (bytes : List ℕ) (trail : List Regs) → 1000 ≤ made → IsTurning made r bytes trail → in_turn g r bytes trail Started ≡ whole_turn (flat g.pages) 0 t (lone_of g first)
+      pub turning_goes_on : state ≡ Started → IsTurning (made + 1) next now after
+      turning_goes_on started = record {
+        begun = begun_after;
+        rest = ap (λ s. iterate (one_more (plan_of g) 0 t) (1000 - (made + 1)) (in_turn next now begun_after s)) (sym started) ∙ rest_after;
+        pieces = pieces_after;
+      }
+
+      not_started : (s : HartState) → (s ≡ Started → ⊥) → is_started s ≡ false
+      not_started Started h = absurd (h refl)
+      not_started Waiting h = refl
+      not_started Suspended h = refl
+      not_started Stopped h = refl
+
+      -- a VCPU that isn't started makes no more steps
+      pub turning_stops : (state ≡ Started → ⊥) → IsTurned g t first next now after state
+      turning_stops stopped =
+          let none : one_more (plan_of g) 0 t (in_turn next now begun_after state) ≡ None = cond-false (is_started state) _ None (not_started state stopped) in
+          let last : in_turn next now begun_after state ≡ whole = sym (iterate_over (one_more (plan_of g) 0 t) (1000 - (made + 1)) (in_turn next now begun_after state) none) ∙ rest_after in
+          record {
+            on_hart = ap (λ w. w.on_hart) last;
+            onward = ap (λ w. w.onward) last;
+            pieces = subst (λ cores. IsTrail core_of cores after) (ap (λ w. w.begun) last) pieces_after;
+          }
+
+  pub turning_ends : (made : ℕ) (r : Regs) (bytes : List ℕ) (trail : List Regs) → 1000 ≤ made → IsTurning made r bytes trail → IsTurned g t first r bytes trail Started
   turning_ends made r bytes trail all turning =
-      sym (iterate_none (one_more (flat g.pages) 0 t) (in_turn g r bytes trail Started))
-      ∙ (ap (λ n. iterate (one_more (flat g.pages) 0 t) n (in_turn g r bytes trail Started)) (let e : 0 ≡ 1000 - made = omega arith in e)
-      ∙ turning.whole)
+      let last : in_turn r bytes turning.begun Started ≡ whole =
+      sym (iterate_none (one_more (plan_of g) 0 t) (in_turn r bytes turning.begun Started))
+      ∙ (ap (λ n. iterate (one_more (plan_of g) 0 t) n (in_turn r bytes turning.begun Started)) (let e : 0 ≡ 1000 - made = omega arith in e)
+      ∙ turning.rest) in
+      record {
+        on_hart = ap (λ w. w.on_hart) last;
+        onward = ap (λ w. w.onward) last;
+        pieces = subst (λ cores. IsTrail core_of cores trail) (ap (λ w. w.begun) last) turning.pieces;
+      }
+
+-- a piece more of the trail
+pub piece_few : (g : Guest) (r : Regs) (before after : List Regs) → Grows g r before after → length after ≤ length before + 13
+piece_few g r before after grows = omega (arith, ap length grows.grown, length-append before grows.piece, grows.shown.few)
 
 -- what the whole turn gives
-module _ (plan : Plan) (t : ℕ) (m : Machine) (whole : InTurn) (is : whole ≡ whole_turn plan 0 t m) where
-  pub turn_is : whole.running.machine ≡ turn plan 0 t m
+module _ (g : Guest) (clock : ℕ) (first : List ℕ) (r : Regs) (bytes : List ℕ) (trail : List Regs) (state : HartState) (end : IsTurned g (time_of g clock) first r bytes trail state) where
+  pub turned_is : lone_of (record g { view = view_of g r state }) bytes ≡ turned g clock first
   unfolding turn
-  turn_is = ap (λ w. w.running.machine) is
+  turned_is = ap (λ o. o.machine) end.on_hart
 
-  pub visited_are : whole.begun ≡ visited plan 0 t m
+  pub trail_is : IsTrail core_of (turn_begun g clock first) trail
   unfolding visited
-  visited_are = ap (λ w. w.begun) is
+  trail_is = end.pieces
 
-pub ending_is : (plan : Plan) (t : ℕ) (m now : Machine) (v : VcpuView) → now ≡ turn plan 0 t m → now.vcpus ≡ v ∷ [] → ends_as v.hart ≡ ending plan 0 t m
-unfolding ending
-ending_is plan t m now v same one = ap (λ vs. ending_of (slice_get vs 0)) (sym one ∙ ap (λ n. n.vcpus) same)
+  pub ending_is : ends_as On state ≡ turn_ending g clock first
+  unfolding ending
+  ending_is = ap (λ o. ending_in 0 (record { on_hart = o; onward = On; begun = [] })) end.on_hart
+      ∙ ap (λ w. ending_in 0 (record { on_hart = (whole_turn (plan_of g) 0 (time_of g clock) (lone_of g first)).on_hart; onward = w; begun = [] })) end.onward
 
-pub steps_are : (plan : Plan) (t : ℕ) (m : Machine) (begun : List Core) → begun ≡ visited plan 0 t m → length begun ≡ steps plan 0 t m
+-- a lone step has an entry or more in the trail
+pub trail_counts : (cores : List Core) (trail : List Regs) → IsTrail core_of cores trail → length cores ≤ length trail
+trail_counts _ _ NoPiece = omega arith
+trail_counts _ _ (OneMore cores trail core piece earlier shown) =
+    omega (arith, length-append cores (core ∷ []), length-append trail piece, shown.some, trail_counts cores trail earlier)
+
+pub steps_few : (plan : Plan) (t : ℕ) (m : Machine) (trail : List Regs) → IsTrail core_of (visited plan 0 t m) trail → steps plan 0 t m ≤ length trail
 unfolding steps
-steps_are plan t m begun same = ap length same
+steps_few plan t m trail pieces = trail_counts (visited plan 0 t m) trail pieces

@@ -4,27 +4,38 @@ use Rattle.xv_lone.specs.declared.vcpu.VcpuView.{VcpuView}
 use Rattle.xv_lone.specs.Plan.{Plan, flat, need}
 use Rattle.xv_lone.specs.Cell.{Cell, cell}
 use Rattle.xv_lone.specs.Machine.{new_machine}
-use Rattle.xv_lone.specs.Journal.{Born, Load, Kick}
+use Rattle.xv_lone.specs.Ready.{is_reset}
+use Rattle.xv_lone.specs.Journal.{Born, Change, Load, Kick}
 use Rattle.xv_top.specs.declared.command.Command.{Command}
 use Rattle.xv_top.specs.declared.command.Command.TheVariants as command
 use Rattle.xv_top.specs.Texts.{refused_text, frames_text, created_text, poked_text, kicked_text, ran_text, regs_text}
-use Rattle.xv_top.specs.World.{LiveGuest, World, Entered, RunSoFar, free, guest_named, entered, is_reset, run_of}
+use Rattle.xv_top.specs.World.{LiveGuest, World, GuestEntry, RunSoFar, most_turns, free, guest_named, with_change, change_entry, run_of}
 
--- the text, the world after it, and what was entered into the journals of guests
+-- the text, the world after it, the entries that the journals of guests get, and the lone steps that it makes
 pub record Answer : Type 0 where
   pub text : List ℕ
   pub world : World
-  pub entered : List Entered
+  pub entries : List GuestEntry
+  pub work : ℕ
+
+-- a text alone
+abbrev pub says : World → List ℕ → Answer
+says w text = record { text = text; world = w; entries = []; work = 0 }
 
 abbrev pub refused : World → List ℕ → Answer
-refused w word = record { text = refused_text word; world = w; entered = [] }
+refused w word = says w (refused_text word)
+
+-- one guest changes
+abbrev pub changes : World → List ℕ → Change → (text : List ℕ) → Answer
+changes w name change text = record { text = text; world = with_change name change w; entries = change_entry name change ∷ []; work = 0 }
 
 -- a guest of this plan is born
 abbrev pub created : World → List ℕ → Plan → Answer
 created w name plan = record {
   text = created_text name (length plan.starts) (length plan.regions) (need plan);
   world = record w { guests = w.guests ++ record { name = name; plan = plan; machine = new_machine plan w.clock } ∷ [] };
-  entered = record { name = name; entry = Born w.clock } ∷ [];
+  entries = record { name = name; entry = Born w.clock } ∷ [];
+  work = 0;
 }
 
 -- `guest flat`: a second guest isn't built
@@ -32,13 +43,13 @@ abbrev pub flat_answer : World → List ℕ → ℕ → Answer
 flat_answer w name pages =
     if is_some (guest_named name w) then refused w (codes "used")
     else (if nat_lt 0 (length w.guests) then refused w (codes "unbuilt")
-    else (if nat_lt (free w) (need (flat pages)) then record { text = frames_text (need (flat pages)) (free w); world = w; entered = [] }
+    else (if nat_lt (free w) (need (flat pages)) then says w (frames_text (need (flat pages)) (free w))
     else created w name (flat pages)))
 
 -- bytes for a guest physical address, which is a cell or none
 abbrev pub poke_at : World → List ℕ → ℕ → List ℕ → Option Cell → Answer
 poke_at w name gpa bytes None = refused w (codes "outside")
-poke_at w name gpa bytes (Some c) = record { text = poked_text name (length bytes); world = entered name (Load gpa bytes) w; entered = record { name = name; entry = Load gpa bytes } ∷ [] }
+poke_at w name gpa bytes (Some c) = changes w name (Load gpa bytes) (poked_text name (length bytes))
 
 abbrev pub poke_guest : World → List ℕ → ℕ → List ℕ → Option LiveGuest → Answer
 poke_guest w name gpa bytes None = refused w (codes "guest")
@@ -48,22 +59,18 @@ poke_guest w name gpa bytes (Some g) =
 abbrev pub kick_guest : World → List ℕ → Option LiveGuest → Answer
 kick_guest w name None = refused w (codes "guest")
 kick_guest w name (Some g) =
-    if is_reset g.machine.state then record { text = kicked_text name; world = entered name Kick w; entered = record { name = name; entry = Kick } ∷ [] } else refused w (codes "state")
+    if is_reset g.machine.state then changes w name Kick (kicked_text name) else refused w (codes "state")
 
 abbrev pub regs_of_vcpu : World → List ℕ → ℕ → Option VcpuView → Answer
 regs_of_vcpu w name vcpu None = refused w (codes "vcpu")
-regs_of_vcpu w name vcpu (Some v) = record { text = regs_text name vcpu v; world = w; entered = [] }
+regs_of_vcpu w name vcpu (Some v) = says w (regs_text name vcpu v)
 
 abbrev pub regs_guest : World → List ℕ → ℕ → Option LiveGuest → Answer
 regs_guest w name vcpu None = refused w (codes "guest")
 regs_guest w name vcpu (Some g) = regs_of_vcpu w name vcpu (slice_get g.machine.vcpus vcpu)
 
--- the most turns that one script may have
-abbrev pub most_turns : ℕ
-most_turns = 1000000
-
 abbrev pub ran_answer : ℕ → RunSoFar → Answer
-ran_answer turns r = record { text = ran_text turns r.idle r.world.clock; world = r.world; entered = r.entered }
+ran_answer turns r = record { text = ran_text turns r.idle r.world.clock; world = r.world; entries = r.entries; work = r.work }
 
 abbrev pub run_answer : World → ℕ → Answer
 run_answer w turns =
@@ -75,11 +82,3 @@ answer w (command.Poke name gpa bytes) = poke_guest w name gpa bytes (guest_name
 answer w (command.Kick name) = kick_guest w name (guest_named name w)
 answer w (command.Regs name vcpu) = regs_guest w name vcpu (guest_named name w)
 answer w (command.Run turns) = run_answer w turns
-
--- the lone steps that a command makes
-unfoldable pub work_in : World → Command → ℕ
-work_in w (command.Flat name pages) = 0
-work_in w (command.Poke name gpa bytes) = 0
-work_in w (command.Kick name) = 0
-work_in w (command.Regs name vcpu) = 0
-work_in w (command.Run turns) = if nat_lt most_turns (w.turns + turns) then 0 else (run_of turns w).work

@@ -8,12 +8,13 @@ use Rattle.xv_lone.specs.Cell.{Memory}
 use Rattle.xv_top.specs.declared.command.Command.{Command}
 use Rattle.xv_hart.specs.declared.machine.Machine.{Machine}
 use Rattle.xv_hart.specs.Hart.{taken_by}
-use Rattle.xv_top.specs.World.{LiveGuest, first_world}
-use Rattle.xv_top.specs.Guest.{host_base}
-use Rattle.xv_top.specs.Script.{commands}
+use Rattle.xv_hart.specs.Machine.{area_of}
+use Rattle.xv_top.specs.World.{LiveGuest, World, first_world}
+use Rattle.xv_top.specs.Layout.{host_base, memory_size, pool_frames}
+use Rattle.xv_top.specs.Script.{commands, most_bytes}
 use Rattle.xv_top.specs.Texts.{script_text}
-use Rattle.xv_top.specs.Journals.{entered_by, AreReplayed}
-use Rattle.xv_top.specs.Transcript.{world_after, work_after, pool_frames, transcript}
+use Rattle.xv_top.specs.Journals.{entries_by, AreReplayed}
+use Rattle.xv_top.specs.Transcript.{answers, world_after, work_after, transcript}
 
 -- the words that the program takes: `boot` alone
 abbrev pub AreRight : List (List ℕ) → Type 0
@@ -23,7 +24,7 @@ AreRight (word ∷ next ∷ more) = ⊥
 
 -- the most bytes of a script that are read: one more than a script may have
 abbrev pub most_read : ℕ
-most_read = 1048577
+most_read = most_bytes + 1
 
 -- the text that a read to the end gives, or to the limit, where the source tells its bytes
 abbrev pub IsTextOf : Option (List ℕ) → List ℕ → Type 0
@@ -55,16 +56,31 @@ IsScriptOf (Some bytes) script = bytes ≡ script
 abbrev pub emptied : Option (List ℕ) → Option (List ℕ)
 emptied left = option_map (λ bytes. []) left
 
+-- All commands were run from a world on: the answers to them were taken and nothing else, and the hart took at
+-- least their lone steps.
+pub record AllRan (cs : List Command) (before after : World) (taken_old taken_new : Option (List ℕ)) (machine_old machine_new : Machine) : Type 0 where
+  pub taken : taken_new ≡ taken_with taken_old (answers before cs)
+  pub world : after ≡ world_after before cs
+  pub work : work_after before cs ≤ taken_by machine_new.hart
+  pub size : length machine_new.mem ≡ length machine_old.mem
+  pub area : machine_new.area ≡ machine_old.area
+
+-- The sink failed at one of the answers, and took a front of them.
+pub record IsStopped (cs : List Command) (before : World) (taken_old taken_new : Option (List ℕ)) (faults_old faults_new : ℕ) : Type 0 where
+  pub front : TookFront taken_old taken_new (answers before cs)
+  pub cause : Rose faults_old faults_new
+
 -- All commands of the script were run: the answers to them were taken and nothing else, the machine of
 -- each guest in the world is the replay of its own journal, and the hart has stepped and host memory holds
--- what the world says.
+-- what the world says. No part of host memory is reserved.
 pub record IsServed (mib : ℕ) (script : List ℕ) (taken_old taken_new : Option (List ℕ)) (machine : Machine) : Type 0 where
   pub cs : List Command
   pub grammar : commands script ≡ Some cs
   pub taken : taken_new ≡ taken_with taken_old (transcript mib script)
-  pub size : length machine.mem ≡ 4096 * (256 * mib)
+  pub size : length machine.mem ≡ memory_size mib
+  pub area : machine.area ≡ area_of mib 0
   pub memory : HoldsWorld machine.mem (world_after (first_world (pool_frames mib)) cs).guests
-  pub journals : AreReplayed (entered_by (first_world (pool_frames mib)) cs) (world_after (first_world (pool_frames mib)) cs).guests
+  pub journals : AreReplayed (entries_by (first_world (pool_frames mib)) cs) (world_after (first_world (pool_frames mib)) cs).guests
   pub stepped : work_after (first_world (pool_frames mib)) cs ≤ taken_by machine.hart
 
 -- The script was read to its end and served.

@@ -1,26 +1,31 @@
 -- What the guest in the program is: a lone machine, over host memory.
-use Rattle.std.specs.Prelude.{ℕ, ◌≡◌, ◌+◌, ◌-◌, ◌*◌, ◌%◌, ◌^◌, ◌<◌, ◌≤◌, List, [], ◌∷◌, length, map, None}
+use Rattle.std.specs.Prelude.{ℕ, ◌≡◌, ◌+◌, ◌-◌, ◌*◌, ◌^◌, ◌<◌, ◌≤◌, List, [], ◌∷◌, ◌++◌, length, Option, Some, None}
+use Rattle.std.specs.List.{All}
 use Rattle.xv_mem.specs.Bytes.{range}
-use Rattle.xv_lone.specs.declared.vcpu.GuestState.TheVariants.{Reset}
-use Rattle.xv_lone.specs.Plan.{flat, flat_base}
-use Rattle.xv_lone.specs.Vcpu.{reset_vcpu}
-use Rattle.xv_lone.specs.Machine.{Machine}
-use Rattle.xv_lone.specs.Cell.{Cell}
-use Rattle.xv_lone.specs.Step.{lines_at}
-use Rattle.xv_lone.specs.Turn.{Core, InTurn}
-use Rattle.xv_lone.specs.declared.vcpu.VcpuView.{VcpuView}
-use Rattle.xv_lone.specs.declared.vcpu.HartState.{HartState}
+use Rattle.xv_csr.specs.Fields.{IsInstructionAddress}
 use Rattle.xv_csr.specs.Kept.{IsKept}
 use Rattle.xv_step.specs.State.{held_as}
 use Rattle.xv_hart.specs.declared.window.Window.{Window}
+use Rattle.xv_hart.specs.declared.regs.Held.{Held}
 use Rattle.xv_hart.specs.declared.regs.Regs.{Regs}
 use Rattle.xv_hart.specs.Step.{held_of}
+use Rattle.xv_lone.specs.declared.vcpu.GuestState.TheVariants.{Reset}
+use Rattle.xv_lone.specs.declared.vcpu.HartState.{HartState}
+use Rattle.xv_lone.specs.declared.vcpu.TurnEnd.{TurnEnd}
+use Rattle.xv_lone.specs.declared.vcpu.VcpuView.{VcpuView}
+use Rattle.xv_lone.specs.Plan.{Plan, flat, flat_base}
+use Rattle.xv_lone.specs.Cell.{Cell}
+use Rattle.xv_lone.specs.Vcpu.{reset_vcpu}
+use Rattle.xv_lone.specs.Machine.{Machine, guest_time}
+use Rattle.xv_lone.specs.Step.{OnHart, After, On, lines_at}
+use Rattle.xv_lone.specs.Turn as turns
+use Rattle.xv_lone.specs.Turn.{Core}
+use Rattle.xv_lone.specs.Trail.{IsTrail, IsPiece}
 use Rattle.xv_top.specs.declared.guest.Guest.{Guest}
-use Rattle.xv_top.specs.World.{LiveGuest}
+use Rattle.xv_top.specs.Layout.{host_base}
 
--- the host address from which on the guest's bytes lie: behind the 64 frames of the root tables
-abbrev pub host_base : ℕ
-host_base = 0x4_0000
+abbrev pub plan_of : Guest → Plan
+plan_of g = flat g.pages
 
 -- the lone machine that the guest is, over these host bytes
 abbrev pub lone_of : Guest → List ℕ → Machine
@@ -31,12 +36,22 @@ lone_of g bytes = record {
   birth = g.birth;
 }
 
-abbrev pub live_guest : Guest → List ℕ → LiveGuest
-live_guest g bytes = record { name = g.name; plan = flat g.pages; machine = lone_of g bytes }
+-- guest time, for which no byte matters
+abbrev pub time_of : Guest → (clock : ℕ) → ℕ
+time_of g clock = guest_time clock (lone_of g [])
 
--- where the guest's memory lies
+-- where the guest's memory lies, and where it ends
 abbrev pub window_of : Guest → Window
 window_of g = record { base = flat_base; size = 4096 * g.pages; host = host_base }
+
+abbrev pub host_end : Guest → ℕ
+host_end g = host_base + 4096 * g.pages
+
+-- a guest at its create
+abbrev pub new_guest : List ℕ → ℕ → ℕ → Guest
+new_guest name pages clock = record { name = name; pages = pages; view = reset_vcpu flat_base; state = Reset; birth = clock }
+
+-- ---- its VCPU on the hart
 
 -- the registers that the hart has when the guest's turn begins, at guest time t: no reservation is held
 abbrev pub regs_of_guest : Guest → (t : ℕ) → Regs
@@ -46,7 +61,7 @@ regs_of_guest g t = record {
   user = g.view.user;
   csrs = g.view.csrs;
   window = window_of g;
-  lines = lines_at t g.view;
+  lines = lines_at 0 t (lone_of g []) g.view;
   time = t;
   held = None;
 }
@@ -55,40 +70,75 @@ regs_of_guest g t = record {
 abbrev pub core_of : Regs → Core
 core_of r = record { x = r.x; pc = r.pc; user = r.user; csrs = r.csrs }
 
--- the VCPU that is on the hart
+-- the VCPU that is on the hart, in a hart state
 abbrev pub view_of : Guest → Regs → HartState → VcpuView
-view_of g r hart = record g.view { x = r.x; pc = r.pc; user = r.user; csrs = r.csrs; hart = hart }
+view_of g r state = record g.view { x = r.x; pc = r.pc; user = r.user; csrs = r.csrs; hart = state }
 
 -- a host address of the guest's memory, as a cell
 abbrev pub cell_at : ℕ → Cell
 cell_at at = record { region = 0; offset = at - host_base }
 
--- the guest's lone machine within its turn, by what the hart shows and what its trail has
-abbrev pub in_turn : Guest → Regs → List ℕ → List Regs → HartState → InTurn
-in_turn g r bytes trail hart = record {
-  running = record { machine = lone_of (record g { view = view_of g r hart }) bytes; held = held_as cell_at (held_of r.held) };
-  begun = map core_of trail;
+-- the guest's lone machine while its VCPU is on the hart, by what the hart shows
+abbrev pub on_hart_of : Guest → Regs → List ℕ → HartState → OnHart
+on_hart_of g r bytes state = record {
+  machine = lone_of (record g { view = view_of g r state }) bytes;
+  held = held_as cell_at (held_of r.held);
 }
 
--- a guest at its create
-abbrev pub new_guest : List ℕ → ℕ → ℕ → Guest
-new_guest name pages clock = record { name = name; pages = pages; view = reset_vcpu flat_base; state = Reset; birth = clock }
+-- and after a lone step
+abbrev pub after_of : Guest → Regs → List ℕ → HartState → After
+after_of g r bytes state = record { on_hart = on_hart_of g r bytes state; onward = On }
 
--- the guest's memory lies in a host memory of so many bytes, its pc is a multiple of 4, and its CSRs hold what
--- writes keep
-pub record IsHeld (g : Guest) (size : ℕ) : Type 0 where
+-- ---- a turn of its VCPU, at a clock
+
+module _ (g : Guest) (clock : ℕ) (bytes : List ℕ) where
+  abbrev pub turned : Machine
+  turned = turns.turn (plan_of g) 0 (time_of g clock) (lone_of g bytes)
+
+  abbrev pub turn_ending : TurnEnd
+  turn_ending = turns.ending (plan_of g) 0 (time_of g clock) (lone_of g bytes)
+
+  abbrev pub turn_begun : List Core
+  turn_begun = turns.visited (plan_of g) 0 (time_of g clock) (lone_of g bytes)
+
+-- the turn at guest time t from these host bytes on has come to its end with this on the hart, in host memory
+-- and in the trail
+pub record IsTurned (g : Guest) (t : ℕ) (first : List ℕ) (r : Regs) (bytes : List ℕ) (trail : List Regs) (state : HartState) : Type 0 where
+  pub on_hart : on_hart_of g r bytes state ≡ (turns.whole_turn (plan_of g) 0 t (lone_of g first)).on_hart
+  pub onward : On ≡ (turns.whole_turn (plan_of g) 0 t (lone_of g first)).onward
+  pub pieces : IsTrail core_of (turns.whole_turn (plan_of g) 0 t (lone_of g first)).begun trail
+
+-- ---- what it needs of host memory
+
+-- the guest's memory lies in a host memory of so many bytes, its pc is an instruction's address, and its CSRs
+-- hold what writes keep
+pub record IsPlaced (g : Guest) (size : ℕ) : Type 0 where
   pub some : 0 < g.pages
-  pub pages : host_base + 4096 * g.pages ≤ size
+  pub pages : host_end g ≤ size
   pub small : size < 2 ^ 45
-  pub pc : g.view.pc % 4 ≡ 0
+  pub pc : IsInstructionAddress g.view.pc
   pub csrs : IsKept g.view.csrs
 
--- where the guest's memory ends
-abbrev pub host_end : Guest → ℕ
-host_end g = host_base + 4096 * g.pages
+-- what is reserved lies in the guest's memory
+abbrev pub ReservedInside : Guest → Option Held → Type 0
+ReservedInside g None = Unit {0}
+ReservedInside g (Some held) = (host_base ≤ held.host) × (held.host + held.width ≤ host_end g)
 
--- every host byte outside of the guest's memory is as before
-pub record SameElsewhere (g : Guest) (before after : List ℕ) : Type 0 where
+-- the guest's VCPU is on the hart, within a turn at guest time t
+pub record IsOnHart (g : Guest) (t : ℕ) (r : Regs) : Type 0 where
+  pub window : r.window ≡ window_of g
+  pub time : r.time ≡ t
+  pub reserved : ReservedInside g r.held
+
+-- the trail got one more piece, of a lone step that began with these registers, through the guest's window alone
+pub record Grows (g : Guest) (r : Regs) (before after : List Regs) : Type 0 where
+  pub piece : List Regs
+  pub grown : after ≡ before ++ piece
+  pub shown : IsPiece core_of (core_of r) piece
+  pub window : All (λ entry. entry.window ≡ window_of g) piece
+
+-- every host byte outside of the memory of a guest that ends there is as before
+pub record SameElsewhere (end : ℕ) (before after : List ℕ) : Type 0 where
   pub size : length after ≡ length before
   pub below : range after 0 host_base ≡ range before 0 host_base
-  pub above : range after (host_end g) (length before - host_end g) ≡ range before (host_end g) (length before - host_end g)
+  pub above : range after end (length before - end) ≡ range before end (length before - end)

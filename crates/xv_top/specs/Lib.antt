@@ -1,5 +1,6 @@
 pub mod Answer
 pub mod Boot
+pub mod Layout
 pub mod Guest
 pub mod Monitor
 pub mod Journals

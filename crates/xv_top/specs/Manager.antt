@@ -1,12 +1,15 @@
 -- What the manager in the program is: a world, over host memory.
 use Rattle.std.specs.Prelude.{ℕ, ◌≡◌, ◌+◌, ◌*◌, ◌^◌, ◌<◌, ◌≤◌, List, [], ◌∷◌, length, replicate, Bool, if◌then◌else◌, Option, Some, None}
 use Rattle.xv_top.specs.declared.guest.Guest.{Guest}
-use Rattle.xv_top.specs.declared.command.Command.{Command}
-use Rattle.xv_top.specs.declared.command.Command.TheVariants.{Flat, Poke, Kick, Regs, Run}
 use Rattle.xv_top.specs.declared.manager.Manager.{Manager}
-use Rattle.xv_top.specs.World.{LiveGuest, World, Entered, RunSoFar, one_turn, pick}
+use Rattle.xv_top.specs.World.{LiveGuest, World, GuestEntry, RunSoFar, most_turns, one_turn, pick}
 use Rattle.xv_top.specs.Answer.{Answer}
-use Rattle.xv_top.specs.Guest.{live_guest, IsHeld}
+use Rattle.xv_top.specs.Guest.{lone_of, plan_of, host_end, IsPlaced, SameElsewhere}
+use Rattle.xv_top.specs.Layout.{root_frames, host_base}
+
+-- a guest, as the world has it
+abbrev pub live_guest : Guest → List ℕ → LiveGuest
+live_guest g bytes = record { name = g.name; plan = plan_of g; machine = lone_of g bytes }
 
 abbrev pub guests_of : Option Guest → List ℕ → List LiveGuest
 guests_of None bytes = []
@@ -24,36 +27,39 @@ pub record Gives (a : Answer) (printed : List ℕ) (after : World) : Type 0 wher
 -- host memory is all zeros before the first guest, and has room for the guest after that
 abbrev pub GuestIsSound : Option Guest → List ℕ → Type 0
 GuestIsSound None bytes = bytes ≡ replicate (length bytes) 0
-GuestIsSound (Some g) bytes = IsHeld g (length bytes)
+GuestIsSound (Some g) bytes = IsPlaced g (length bytes)
 
 -- the manager's world has room in these host bytes
 pub record IsSound (m : Manager) (bytes : List ℕ) : Type 0 where
-  pub pool : 4096 * (64 + m.pool) ≤ length bytes
+  pub pool : 4096 * (root_frames + m.pool) ≤ length bytes
   pub small : length bytes < 2 ^ 45
-  pub turns : m.turns ≤ 1000000
+  pub turns : m.turns ≤ most_turns
   pub guest : GuestIsSound m.guest bytes
 
--- a command keeps the ranges of the script's grammar
-abbrev pub IsInRange : Command → Type 0
-IsInRange (Flat name pages) = (0 < pages) × (pages ≤ 131072)
-IsInRange (Poke name gpa bytes) = Unit {0}
-IsInRange (Kick name) = Unit {0}
-IsInRange (Regs name vcpu) = Unit {0}
-IsInRange (Run turns) = (0 < turns) × (turns ≤ 100000)
+-- where the memory of the guest ends, if there is one
+abbrev pub memory_end : Option Guest → ℕ
+memory_end None = host_base
+memory_end (Some g) = host_end g
+
+-- what an answer leaves of host memory: all but the guest's memory, and all of it where no journal got an entry,
+-- as none does of a command that is refused
+pub record Keeps (a : Answer) (m : Manager) (before after : List ℕ) : Type 0 where
+  pub outside : SameElsewhere (memory_end m.guest) before after
+  pub all : a.entries ≡ [] → after ≡ before
 
 -- the turns that a turn adds to the idle ones
 abbrev pub idle_of : Bool → ℕ
 idle_of idle = if idle then 1 else 0
 
 -- a run that has come to this world
-abbrev pub going : World → ℕ → ℕ → List Entered → RunSoFar
-going w idle work entered = record { world = w; idle = idle; work = work; entered = entered }
+abbrev pub going : World → ℕ → ℕ → List GuestEntry → RunSoFar
+going w idle work entries = record { world = w; idle = idle; work = work; entries = entries }
 
 -- the turn that a run makes after so many idle turns and lone steps, by what the manager says of it
-pub record IsTurn (before after : World) (is_idle : Bool) (taken idled worked : ℕ) (before_it : List Entered) : Type 0 where
-  pub world : (one_turn (going before idled worked before_it) (pick before)).world ≡ after
-  pub idle : (one_turn (going before idled worked before_it) (pick before)).idle ≡ idled + idle_of is_idle
-  pub work : (one_turn (going before idled worked before_it) (pick before)).work ≤ worked + taken
+pub record IsTurn (before after : World) (is_idle : Bool) (taken idled worked : ℕ) (earlier : List GuestEntry) : Type 0 where
+  pub world : (one_turn (going before idled worked earlier) (pick before)).world ≡ after
+  pub idle : (one_turn (going before idled worked earlier) (pick before)).idle ≡ idled + idle_of is_idle
+  pub work : (one_turn (going before idled worked earlier) (pick before)).work ≤ worked + taken
 
 -- what the manager says of a whole run: the world, its idle turns, and that the hart took at least its lone
 -- steps

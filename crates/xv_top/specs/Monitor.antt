@@ -1,31 +1,27 @@
--- The hart with its monitor: what the hart leaves, the monitor answers, so that the two together make a lone
--- step over host bytes.
-use Rattle.std.specs.Prelude.{ℕ, ◌==◌, if◌then◌else◌, List}
+-- The monitor: by the trap alone it gives what the lone machine answers to the ask that the hart left.
+use Rattle.std.specs.Prelude.{ℕ, ◌==◌, if◌then◌else◌}
+use Rattle.xv_isa.specs.Length.{next_pc}
+use Rattle.xv_csr.specs.Cause.{environment_call_from_vs, virtual_instruction, instruction_guest_page_fault, load_guest_page_fault}
 use Rattle.xv_pte.specs.declared.access.Kind3.TheVariants.{Fetch, Load, Store}
 use Rattle.xv_pte.specs.declared.access.Kind3.{Kind3}
-use Rattle.xv_step.specs.State.{State}
-use Rattle.xv_step.specs.Perform.{Inputs}
 use Rattle.xv_hart.specs.declared.exit.HTrap.{HTrap}
-use Rattle.xv_hart.specs.declared.regs.Regs.{Regs}
-use Rattle.xv_hart.specs.Step.{state_of, inputs_of, outcome_of}
-use Rattle.xv_lone.specs.declared.vcpu.HartState.{HartState}
-use Rattle.xv_lone.specs.Step.{After, after, called, waits, faulted}
+use Rattle.xv_lone.specs.declared.vcpu.VcpuView.{VcpuView}
+use Rattle.xv_lone.specs.Plan.{Plan}
+use Rattle.xv_lone.specs.Step.{OnHart, After, calls, waits, faults}
+
+-- the word of ECALL
+abbrev pub ecall_word : ℕ
+ecall_word = 0x73
 
 -- the kind of the access that a guest-page fault is about
 abbrev pub kind_of_cause : ℕ → Kind3
-kind_of_cause cause = if cause == 20 then Fetch else (if cause == 21 then Load else Store)
+kind_of_cause cause =
+    if cause == instruction_guest_page_fault then Fetch
+    else (if cause == load_guest_page_fault then Load else Store)
 
--- what a trap is answered with, by the trap alone
-abbrev pub handled : HTrap → {M P : Type 0} → Inputs → State M P → After M P
-handled trap inputs s =
-    if trap.cause == 10 then called inputs s
-    else (if trap.cause == 22 then waits inputs s
-    else faulted inputs s (kind_of_cause trap.cause) trap.tval)
-
--- the registers over host bytes, and whether their VCPU runs on
-abbrev pub shows : HartState → Regs → List ℕ → After (List ℕ) ℕ
-shows hart r bytes = record { state = state_of r bytes; hart = hart }
-
--- what a lone step makes of the registers and the host bytes
-abbrev pub host_after : Regs → List ℕ → After (List ℕ) ℕ
-host_after r bytes = after (inputs_of r) (state_of r bytes) (outcome_of r bytes)
+-- what a trap of VCPU h, which is v, is answered with
+abbrev pub monitored : Plan → (h t : ℕ) → OnHart → VcpuView → HTrap → After
+monitored plan h t r v trap =
+    if trap.cause == environment_call_from_vs then calls plan h t r v (next_pc v.pc ecall_word)
+    else (if trap.cause == virtual_instruction then waits plan h t r v (next_pc v.pc trap.word)
+    else faults plan h t r v (kind_of_cause trap.cause) trap.tval)

@@ -1,5 +1,5 @@
 -- The scripts that are built: one guest of plain RAM is made, poked, kicked, run and shown.
-use Rattle.std.specs.Prelude.{◌≡◌, ℕ, ◌≤◌, ◌==◌, IsTrue, Bool, ◌&&◌, List, [], ◌∷◌, length, nat_le, if◌then◌else◌, Option, Some, None, option_and_then, codes}
+use Rattle.std.specs.Prelude.{◌≡◌, ℕ, ◌≤◌, ◌==◌, Bool, ◌&&◌, List, [], ◌∷◌, length, nat_le, if◌then◌else◌, Option, Some, None, option_and_then, codes}
 use Rattle.std.specs.List.{slice_split}
 use Rattle.std.specs.Str.{bytes_eq}
 use Rattle.xv_base.specs.Name.{is_guest_name}
@@ -21,6 +21,16 @@ lines text = slice_split (λ byte. byte == 0x0A) text
 abbrev pub words : List ℕ → List (List ℕ)
 words line = slice_split (λ byte. byte == 0x20) line
 
+-- the most pages of a guest, the most turns of one run, and the most bytes of a script
+abbrev pub most_pages : ℕ
+most_pages = 131072
+
+abbrev pub most_run : ℕ
+most_run = 100000
+
+abbrev pub most_bytes : ℕ
+most_bytes = 1048576
+
 -- a number from 1 to the limit
 unfoldable pub number_to : ℕ → List ℕ → Option ℕ
 number_to limit bytes = do
@@ -41,7 +51,7 @@ is_of_guest verb name first second third =
 unfoldable pub flat_line : List ℕ → List (List ℕ) → Option Command
 flat_line name (guest ∷ flat ∷ word ∷ pages ∷ []) =
     if is_of_guest (codes "flat") name guest flat word then (do
-      count ← number_to 131072 pages
+      count ← number_to most_pages pages
       Some (Flat name count))
     else None
 flat_line name _ = None
@@ -67,7 +77,7 @@ kick_line name _ = None
 unfoldable pub run_line : List (List ℕ) → Option Command
 run_line (run ∷ turns ∷ []) =
     if bytes_eq run (codes "run") then (do
-      count ← number_to 100000 turns
+      count ← number_to most_run turns
       Some (Run count))
     else None
 run_line _ = None
@@ -98,18 +108,12 @@ commands_of _ = None
 
 -- the commands of a script of at most 1,048,576 bytes, or None where it is not one that is built
 unfoldable pub commands : List ℕ → Option (List Command)
-commands text = if nat_le (length text) 1048576 then commands_of (lines text) else None
+commands text = if nat_le (length text) most_bytes then commands_of (lines text) else None
 
--- the form of the commands of a script that is built, with the ranges of its numbers
-pub record IsBuilt (all : List Command) : Type 0 where
-  pub name : List ℕ
-  pub pages : ℕ
-  pub gpa : ℕ
-  pub bytes : List ℕ
-  pub turns : ℕ
-  pub form : all ≡ Flat name pages ∷ Poke name gpa bytes ∷ Kick name ∷ Run turns ∷ Regs name 0 ∷ []
-  pub named : IsTrue (is_guest_name name)
-  pub some_pages : 1 ≤ pages
-  pub most_pages : pages ≤ 131072
-  pub some_turns : 1 ≤ turns
-  pub most_turns : turns ≤ 100000
+-- the numbers of a command keep the ranges of the grammar
+abbrev pub IsInRange : Command → Type 0
+IsInRange (Flat name pages) = (1 ≤ pages) × (pages ≤ most_pages)
+IsInRange (Poke name gpa bytes) = Unit {0}
+IsInRange (Kick name) = Unit {0}
+IsInRange (Regs name vcpu) = Unit {0}
+IsInRange (Run turns) = (1 ≤ turns) × (turns ≤ most_run)

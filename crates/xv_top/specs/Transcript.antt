@@ -1,10 +1,11 @@
 -- The transcript of a script: the answers to its commands, one after another.
-use Rattle.std.specs.Prelude.{ℕ, ◌+◌, ◌-◌, ◌*◌, List, [], ◌∷◌, ◌++◌, Option, Some, None}
+use Rattle.std.specs.Prelude.{ℕ, ◌+◌, List, [], ◌∷◌, ◌++◌, Option, Some, None}
 use Rattle.xv_top.specs.declared.command.Command.{Command}
 use Rattle.xv_top.specs.Script.{commands}
 use Rattle.xv_top.specs.Texts.{script_text}
+use Rattle.xv_top.specs.Layout.{pool_frames}
 use Rattle.xv_top.specs.World.{World, first_world}
-use Rattle.xv_top.specs.Answer.{answer, work_in}
+use Rattle.xv_top.specs.Answer.{answer}
 
 -- the answers to commands from a world on
 unfoldable pub answers : World → List Command → List ℕ
@@ -19,12 +20,7 @@ world_after w (c ∷ cs) = world_after (answer w c).world cs
 -- the lone steps that they make
 unfoldable pub work_after : World → List Command → ℕ
 work_after w [] = 0
-work_after w (c ∷ cs) = work_in w c + work_after (answer w c).world cs
-
--- The frames that guests may take, of so many MiB of host memory, each 256 frames of 4,096 bytes: those
--- behind the 64 of the root tables.
-abbrev pub pool_frames : ℕ → ℕ
-pool_frames mib = 256 * mib - 64
+work_after w (c ∷ cs) = (answer w c).work + work_after (answer w c).world cs
 
 -- what is written for commands, or where a script has none
 unfoldable pub transcript_of : ℕ → Option (List Command) → List ℕ

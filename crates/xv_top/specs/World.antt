@@ -1,14 +1,12 @@
 -- The world: the clock, the scheduler's counts, and the lone machines of the live guests. It has no
 -- host memory and no hart.
-use Rattle.std.specs.Prelude.{ℕ, zero, suc, ◌+◌, ◌-◌, ◌%◌, ◌^◌, Bool, true, false, if◌then◌else◌, List, [], ◌∷◌, ◌++◌, map, find, sum_by, Option, Some, None}
+use Rattle.std.specs.Prelude.{ℕ, zero, suc, ◌+◌, ◌-◌, ◌%◌, ◌^◌, Bool, if◌then◌else◌, List, [], ◌∷◌, ◌++◌, map, find, sum_by, Option, Some, None}
 use Rattle.std.specs.Str.{bytes_eq}
-use Rattle.xv_lone.specs.declared.vcpu.GuestState.{GuestState}
-use Rattle.xv_lone.specs.declared.vcpu.GuestState.TheVariants.{Reset, Running}
 use Rattle.xv_lone.specs.Plan.{Plan, need}
 use Rattle.xv_lone.specs.Machine.{Machine, guest_time}
 use Rattle.xv_lone.specs.Ready as ready
 use Rattle.xv_lone.specs.Turn.{steps}
-use Rattle.xv_lone.specs.Journal.{Entry, Turn, changed}
+use Rattle.xv_lone.specs.Journal.{Entry, Changed, Change, Turn, after_change}
 
 pub record LiveGuest : Type 0 where
   pub name : List ℕ
@@ -36,17 +34,14 @@ free w = w.pool - sum_by (λ g. need g.plan) w.guests
 abbrev pub guest_named : List ℕ → World → Option LiveGuest
 guest_named name w = find (λ g. bytes_eq g.name name) w.guests
 
--- a guest after an entry of its journal
-abbrev pub entered_guest : List ℕ → Entry → LiveGuest → LiveGuest
-entered_guest name e g = if bytes_eq g.name name then record g { machine = changed g.plan e g.machine } else g
+-- a guest after a change that its journal gets
+abbrev pub changed_guest : List ℕ → Change → LiveGuest → LiveGuest
+changed_guest name change g =
+    if bytes_eq g.name name then record g { machine = after_change g.plan change g.machine } else g
 
--- the world after an entry of one guest's journal: no other guest changes
-abbrev pub entered : List ℕ → Entry → World → World
-entered name e w = record w { guests = map (entered_guest name e) w.guests }
-
-abbrev pub is_reset : GuestState → Bool
-is_reset Reset = true
-is_reset Running = false
+-- the world after a change of one guest: no other guest changes
+abbrev pub with_change : List ℕ → Change → World → World
+with_change name change w = record w { guests = map (changed_guest name change) w.guests }
 
 -- whether VCPU number vcpu may have a turn in this world
 abbrev pub is_ready : World → ℕ → LiveGuest → Bool
@@ -60,31 +55,38 @@ pick w = find (is_ready w 0) w.guests
 abbrev pub passed : World → World
 passed w = record w { clock = (w.clock + w.tick) % 2 ^ 64; turns = w.turns + 1 }
 
+-- the most turns that one script may have
+abbrev pub most_turns : ℕ
+most_turns = 1000000
+
 -- an entry into the journal of the guest of a name
-pub record Entered : Type 0 where
+pub record GuestEntry : Type 0 where
   pub name : List ℕ
   pub entry : Entry
 
--- a run of turns so far: the world, its idle turns, the lone steps that were made, and what was entered into
--- journals
+abbrev pub change_entry : List ℕ → Change → GuestEntry
+change_entry name change = record { name = name; entry = Changed change }
+
+-- a run of turns so far: the world, its idle turns, the lone steps that were made, and the entries that journals
+-- got
 pub record RunSoFar : Type 0 where
   pub world : World
   pub idle : ℕ
   pub work : ℕ
-  pub entered : List Entered
+  pub entries : List GuestEntry
 
--- what a guest's turn enters
-abbrev pub turn_entered : World → LiveGuest → Entered
-turn_entered w g = record { name = g.name; entry = Turn 0 w.clock }
+-- the guest's turn at the world's clock
+abbrev pub guest_turn : World → Change
+guest_turn w = Turn 0 w.clock
 
 -- one turn of the world: the picked guest's, or an idle one
 abbrev pub one_turn : RunSoFar → Option LiveGuest → RunSoFar
 one_turn r None = record r { world = passed r.world; idle = r.idle + 1 }
 one_turn r (Some g) = record {
-  world = passed (entered g.name (Turn 0 r.world.clock) r.world);
+  world = passed (with_change g.name (guest_turn r.world) r.world);
   idle = r.idle;
   work = r.work + steps g.plan 0 (guest_time r.world.clock g.machine) g.machine;
-  entered = r.entered ++ turn_entered r.world g ∷ [];
+  entries = r.entries ++ change_entry g.name (guest_turn r.world) ∷ [];
 }
 
 -- so many turns more
@@ -94,4 +96,4 @@ run_from (suc n) r = run_from n (one_turn r (pick r.world))
 
 -- so many turns of the world
 unfoldable pub run_of : ℕ → World → RunSoFar
-run_of turns w = run_from turns (record { world = w; idle = 0; work = 0; entered = [] })
+run_of turns w = run_from turns (record { world = w; idle = 0; work = 0; entries = [] })

@@ -1,22 +1,21 @@
 //! One guest: its memory lies in one piece of host memory, and its one VCPU runs on the hart.
-ghost use Rattle.std.specs.Prelude.{◌≡◌, ◌+◌, ◌*◌, ◌%◌, ◌^◌, ◌<◌, ◌≤◌, length, List, ℕ, Option, Some, None, is_some, map, [], true, false};
+ghost use Rattle.std.specs.Prelude.{◌≡◌, ◌+◌, ◌^◌, ◌<◌, ◌≤◌, length, List, ℕ, None, is_some, [], true, false};
 ghost use Rattle.std.specs.List.{All};
 ghost use Rattle.xv_hart.specs.Hart.{regs_of, taken_by, trail_of};
 ghost use Rattle.xv_hart.specs.Machine.{IsFit};
-ghost use Rattle.xv_hart.specs.Step.{IsReady};
-ghost use Rattle.xv_lone.specs.Plan.{flat};
+ghost use Rattle.xv_hart.specs.Step.{IsWellFormed};
 ghost use Rattle.xv_lone.specs.Cell.{cell};
 ghost use Rattle.xv_lone.specs.Journal as journal;
-ghost use Rattle.xv_lone.specs.Machine.{guest_time};
 ghost use Rattle.xv_lone.specs.Ready as ready;
-ghost use Rattle.xv_lone.specs.Step.{lines_at};
+ghost use Rattle.xv_lone.specs.Step.{lines_at, On};
+ghost use Rattle.xv_lone.specs.Trail.{IsTrail};
 ghost use Rattle.xv_lone.specs.Turn as turns;
 ghost use Rattle.xv_lone.specs.Vcpu.{kicked_vcpu};
 ghost use Rattle.xv_lone.specs.declared.vcpu.GuestState.TheVariants.{Running};
-ghost use Rattle.xv_top.specs.Guest.{live_guest, lone_of, new_guest, window_of, regs_of_guest, core_of, in_turn, IsHeld, SameElsewhere};
-ghost use Rattle.xv_top.specs.World.{is_reset};
+ghost use Rattle.xv_top.specs.Guest.{plan_of, lone_of, time_of, new_guest, window_of, regs_of_guest, core_of};
+ghost use Rattle.xv_top.specs.Guest.{turned, turn_ending, turn_begun, IsTurned, IsPlaced, SameElsewhere, host_end};
 
-use crate::monitor::lone_step;
+use crate::layout::{FRAME_SIZE, HOST_BASE};
 use std::sync::ledger::Ledger;
 use xv_base::GuestName;
 use xv_csr::Lines;
@@ -29,9 +28,6 @@ const TURN_STEPS: u32 = 1000;
 
 /// The guest physical address at which a flat guest's memory begins and its VCPU starts.
 pub const FLAT_BASE: u64 = 0x8000_0000;
-
-/// The host address from which on the guest's bytes lie.
-const HOST_BASE: u64 = 0x4_0000;
 
 /// A live guest of `pages` pages of RAM and one VCPU.
 #[derive(Clone, Copy)]
@@ -59,21 +55,21 @@ impl Guest {
 
     /// Whether the guest has not been started.
     pub fn is_reset(&self) -> bool
-        ensures { result ≡ is_reset self.now.state }
+        ensures { result ≡ ready.is_reset self.now.state }
     {
         matches!(self.state, GuestState::Reset)
     }
 
     /// Guest time at a clock.
     fn time(&self, clock: u64) -> u64
-        ensures { (bytes : List ℕ) → result ≡ guest_time clock (lone_of self.now bytes) }
+        ensures { result ≡ time_of self.now clock }
     {
         clock.wrapping_sub(self.birth)
     }
 
-    // The interrupt lines of the VCPU at a guest time.
-    fn lines(&self, time: u64) -> Lines
-        ensures { result ≡ lines_at time self.now.view }
+    /// The interrupt lines of the VCPU at a guest time, as they are now.
+    pub fn lines(&self, time: u64) -> Lines
+        ensures { result ≡ lines_at 0 time (lone_of self.now []) self.now.view }
     {
         Lines {
             timer: self.view.timer <= time,
@@ -84,17 +80,17 @@ impl Guest {
     /// Whether the VCPU may have a turn at this clock: it is started, or waits and an interrupt is
     /// pending and enabled.
     pub fn is_ready(&self, clock: u64) -> bool
-        ensures { (bytes : List ℕ) → result
-            ≡ ready.is_ready 0 (guest_time clock (lone_of self.now bytes)) (lone_of self.now bytes) }
+        ensures { result ≡ ready.is_ready 0 (time_of self.now clock) (lone_of self.now []) }
     {
         match self.state {
             GuestState::Running => self.may_run(self.time(clock)),
-            GuestState::Reset => false,
+            GuestState::Reset | GuestState::Paused | GuestState::Halted(_) => false,
         }
     }
 
     fn may_run(&self, time: u64) -> bool
-        ensures { result ≡ ready.may_run self.now.view.hart (ready.is_called time self.now.view) }
+        ensures { result ≡ ready.may_run self.now.view.hart
+            (ready.has_interrupt 0 time (lone_of self.now []) self.now.view) }
     {
         match self.view.hart {
             HartState::Started => true,
@@ -110,7 +106,7 @@ impl Guest {
     {
         Window {
             base: FLAT_BASE,
-            size: 4096 * u64::from(self.pages),
+            size: FRAME_SIZE * u64::from(self.pages),
             host: HOST_BASE,
         }
     }
@@ -135,13 +131,16 @@ impl Guest {
     /// Puts bytes into the guest's memory at a guest physical address. False where they don't lie
     /// wholly in it, and then nothing changes.
     pub fn load(&self, mem: &mut HostMem, gpa: u64, bytes: &[u8]) -> bool
-        requires { IsHeld self.now (length mem.old) }
-        ensures outside { result ≡ false → cell (flat self.now.pages) gpa (length bytes.now) ≡ None }
+        requires { IsPlaced self.now (length mem.old) }
+        ensures outside { result ≡ false →
+            cell (plan_of self.now) gpa (length bytes.now) ≡ None }
         ensures untouched { result ≡ false → mem.new ≡ mem.old }
-        ensures inside { result ≡ true → is_some (cell (flat self.now.pages) gpa (length bytes.now)) ≡ true }
+        ensures inside { result ≡ true →
+            is_some (cell (plan_of self.now) gpa (length bytes.now)) ≡ true }
         ensures loaded { result ≡ true →
-            lone_of self.now mem.new ≡ journal.loaded (flat self.now.pages) gpa bytes.now (lone_of self.now mem.old) }
-        ensures elsewhere { SameElsewhere self.now mem.old mem.new }
+            lone_of self.now mem.new
+            ≡ journal.after_load (plan_of self.now) gpa bytes.now (lone_of self.now mem.old) }
+        ensures elsewhere { SameElsewhere (host_end self.now) mem.old mem.new }
         ensures size { length mem.new ≡ length mem.old }
     {
         let Some(at) = self.window().host_of(bytes.len() as u64, gpa) else {
@@ -159,39 +158,38 @@ impl Guest {
         self.state = GuestState::Running;
     }
 
-    /// One turn of the VCPU on the hart. The trail has then what each lone step began with, and nothing
-    /// else.
+    /// One turn of the VCPU on the hart. The trail has then a piece for each lone step, which shows
+    /// what it began with, and nothing else.
     pub fn turn<L: Ledger>(
         &mut self,
         machine: &mut Machine,
         clock: u64,
         steps: &mut Steps<L>,
     ) -> TurnEnd
-        requires held { IsHeld self.old (length machine.old.mem) }
+        requires placed { IsPlaced self.old (length machine.old.mem) }
         requires fit { IsFit machine.old }
         requires few { taken_by machine.old.hart < 2 ^ 62 }
-        requires ready { ready.is_ready 0 (guest_time clock (lone_of self.old machine.old.mem)) (lone_of self.old machine.old.mem) ≡ true }
+        requires ready { ready.is_ready 0 (time_of self.old clock) (lone_of self.old []) ≡ true }
 
-        ensures machine { lone_of self.new machine.new.mem
-            ≡ turns.turn (flat self.old.pages) 0 (guest_time clock (lone_of self.old machine.old.mem)) (lone_of self.old machine.old.mem) }
-        ensures ending { result
-            ≡ turns.ending (flat self.old.pages) 0 (guest_time clock (lone_of self.old machine.old.mem)) (lone_of self.old machine.old.mem) }
-        ensures trail { map core_of (trail_of machine.new.hart)
-            ≡ turns.visited (flat self.old.pages) 0 (guest_time clock (lone_of self.old machine.old.mem)) (lone_of self.old machine.old.mem) }
+        ensures machine { lone_of self.new machine.new.mem ≡ turned self.old clock machine.old.mem }
+        ensures ending { result ≡ turn_ending self.old clock machine.old.mem }
+        ensures trail { IsTrail core_of (turn_begun self.old clock machine.old.mem)
+            (trail_of machine.new.hart) }
         ensures window { All (λ r. r.window ≡ window_of self.old) (trail_of machine.new.hart) }
-        ensures taken { taken_by machine.new.hart ≡ taken_by machine.old.hart + length (trail_of machine.new.hart) }
-        ensures few { length (trail_of machine.new.hart) ≤ 1000 }
+        ensures taken { taken_by machine.new.hart
+            ≡ taken_by machine.old.hart + length (trail_of machine.new.hart) }
+        ensures few { length (trail_of machine.new.hart) ≤ 13000 }
         ensures others { self.new ≡ record self.old { view = self.new.view } }
-        ensures elsewhere { SameElsewhere self.old machine.old.mem machine.new.mem }
+        ensures elsewhere { SameElsewhere (host_end self.old) machine.old.mem machine.new.mem }
         ensures area { machine.new.area ≡ machine.old.area }
-        ensures held { IsHeld self.new (length machine.new.mem) }
+        ensures placed { IsPlaced self.new (length machine.new.mem) }
         ensures size { length machine.new.mem ≡ length machine.old.mem }
         ensures fit { IsFit machine.new }
     {
         let time = self.time(clock);
         machine.hart.clear_trail();
         machine.hart.set_regs(&self.regs(time));
-        let hart = self.run(machine, time, steps);
+        let state = self.run(machine, time, steps);
         let Regs {
             x,
             pc,
@@ -205,33 +203,34 @@ impl Guest {
             user,
             csrs,
             timer: self.view.timer,
-            hart,
+            hart: state,
         };
-        end_of(hart)
+        end_of(state)
     }
 
     // Lone steps, as many as a turn may have, or up to one that leaves the VCPU waiting or stopped.
     fn run<L: Ledger>(&self, machine: &mut Machine, time: u64, steps: &mut Steps<L>) -> HartState
-        requires held { IsHeld self.now (length machine.old.mem) }
+        requires placed { IsPlaced self.now (length machine.old.mem) }
         requires fit { IsFit machine.old }
         requires few { taken_by machine.old.hart < 2 ^ 62 }
         requires begun { regs_of machine.old.hart ≡ regs_of_guest self.now time }
         requires trail { trail_of machine.old.hart ≡ [] }
-        requires may { ready.may_run self.now.view.hart (ready.is_called time self.now.view) ≡ true }
+        requires may { ready.may_run self.now.view.hart
+            (ready.has_interrupt 0 time (lone_of self.now []) self.now.view) ≡ true }
 
-        ensures turn { in_turn self.now (regs_of machine.new.hart) machine.new.mem (trail_of machine.new.hart) result
-            ≡ turns.whole_turn (flat self.now.pages) 0 time (lone_of self.now machine.old.mem) }
-        ensures ready { IsReady (regs_of machine.new.hart) }
+        ensures turn { IsTurned self.now time machine.old.mem (regs_of machine.new.hart)
+            machine.new.mem (trail_of machine.new.hart) result }
+        ensures formed { IsWellFormed (regs_of machine.new.hart) }
         ensures window { All (λ r. r.window ≡ window_of self.now) (trail_of machine.new.hart) }
-        ensures taken { taken_by machine.new.hart ≡ taken_by machine.old.hart + length (trail_of machine.new.hart) }
-        ensures few { length (trail_of machine.new.hart) ≤ 1000 }
-        ensures elsewhere { SameElsewhere self.now machine.old.mem machine.new.mem }
+        ensures taken { taken_by machine.new.hart
+            ≡ taken_by machine.old.hart + length (trail_of machine.new.hart) }
+        ensures few { length (trail_of machine.new.hart) ≤ 13000 }
+        ensures elsewhere { SameElsewhere (host_end self.now) machine.old.mem machine.new.mem }
         ensures area { machine.new.area ≡ machine.old.area }
-        ensures size { length machine.new.mem ≡ length machine.old.mem }
         ensures fit { IsFit machine.new }
     {
         for _made in 0..TURN_STEPS {
-            match lone_step(machine, steps) {
+            match self.lone_step(machine, time, steps) {
                 HartState::Started => {}
                 stopped => return stopped,
             }
@@ -241,10 +240,10 @@ impl Guest {
 }
 
 /// How a turn ends that leaves its VCPU so.
-fn end_of(hart: HartState) -> TurnEnd
-    ensures { result ≡ turns.ends_as hart }
+fn end_of(state: HartState) -> TurnEnd
+    ensures { result ≡ turns.ends_as On state }
 {
-    match hart {
+    match state {
         HartState::Started => TurnEnd::Spent,
         HartState::Waiting | HartState::Suspended => TurnEnd::Waits,
         HartState::Stopped => TurnEnd::Stops,

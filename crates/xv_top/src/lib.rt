@@ -4,6 +4,7 @@
 mod command;
 mod frames;
 mod guest;
+mod layout;
 mod manager;
 mod monitor;
 mod printer;

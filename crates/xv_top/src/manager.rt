@@ -1,21 +1,20 @@
 //! The manager: what each command does to the guests, and what it answers.
-ghost use Rattle.std.specs.Prelude.{◌≡◌, ℕ, ◌+◌, ◌-◌, ◌*◌, ◌^◌, ◌<◌, ◌≤◌, List, [], length, Option, option_map, IfSome, true};
+ghost use Rattle.std.specs.Prelude.{◌≡◌, ℕ, ◌+◌, ◌-◌, ◌*◌, ◌^◌, ◌<◌, ◌≤◌, List, [], length, Option, Some, option_map, IfSome, true};
 ghost use Rattle.std.specs.Str.{bytes_eq};
 ghost use Rattle.xv_hart.specs.Hart.{taken_by};
 ghost use Rattle.xv_hart.specs.Machine.{IsFit};
+ghost use Rattle.xv_lone.specs.Ready as ready;
 
 use crate::command::Command;
 use crate::frames::frames_needed;
 use crate::guest::Guest;
+use crate::layout::ROOT_FRAMES;
 use crate::printer::Printer;
 use crate::report;
 use std::sync::ledger::Ledger;
 use xv_base::GuestName;
 use xv_hart::Machine;
 use xv_mem::Steps;
-
-/// Frames of host memory behind which the pool begins: 16 root tables of 4 frames.
-const ROOT_FRAMES: u32 = 64;
 
 /// The tick before a script changes it.
 const FIRST_TICK: u64 = 100;
@@ -36,17 +35,18 @@ pub struct Manager {
 impl Manager {
     ghost use Rattle.xv_top.specs.World as worlds;
     ghost use Rattle.std.specs.Prelude.{replicate};
-    ghost use Rattle.xv_top.specs.Transcript.{pool_frames};
+    ghost use Rattle.xv_top.specs.Layout.{memory_size, pool_frames, root_frames};
     ghost use Rattle.xv_top.specs.Answer as answers;
-    ghost use Rattle.xv_top.specs.Guest.{live_guest};
-    ghost use Rattle.xv_top.specs.Manager.{world_of, Gives, IsSound, IsInRange, IsTurn, IsRunEnd};
+    ghost use Rattle.xv_top.specs.Guest.{lone_of, time_of, SameElsewhere};
+    ghost use Rattle.xv_top.specs.Manager.{live_guest, world_of, Gives, Keeps, memory_end, IsSound, IsTurn, IsRunEnd};
+    ghost use Rattle.xv_top.specs.Script.{IsInRange};
 
     /// A manager with no guest yet, over a machine whose memory is zeros.
     pub fn new(machine: &Machine) -> Manager
-        requires frames { 4096 * 64 ≤ length machine.now.mem }
+        requires frames { 4096 * root_frames ≤ length machine.now.mem }
         requires small { length machine.now.mem < 2 ^ 44 }
         requires zeros { machine.now.mem ≡ replicate (length machine.now.mem) 0 }
-        ensures world { (mib : ℕ) (bytes : List ℕ) → length machine.now.mem ≡ 4096 * (256 * mib) →
+        ensures world { (mib : ℕ) (bytes : List ℕ) → length machine.now.mem ≡ memory_size mib →
             world_of result bytes ≡ worlds.first_world (pool_frames mib) }
         ensures sound { IsSound result machine.now.mem }
     {
@@ -108,11 +108,14 @@ impl Manager {
     )
         requires empty { printer.old ≡ [] }
         requires sound { IsSound self.now machine.old.mem }
-        ensures answer { Gives (answers.answer (world_of self.now machine.old.mem) (Command.Poke name.now gpa bytes.now))
-            printer.new (world_of self.now machine.new.mem) }
+        ensures answer { Gives (answers.answer (world_of self.now machine.old.mem)
+            (Command.Poke name.now gpa bytes.now)) printer.new (world_of self.now machine.new.mem) }
+        ensures keeps { Keeps (answers.answer (world_of self.now machine.old.mem)
+            (Command.Poke name.now gpa bytes.now)) self.now machine.old.mem machine.new.mem }
         ensures sound { IsSound self.now machine.new.mem }
         ensures size { length machine.new.mem ≡ length machine.old.mem }
         ensures hart { machine.new.hart ≡ machine.old.hart }
+        ensures area { machine.new.area ≡ machine.old.area }
     {
         let Some(guest) = self.named(name) else {
             return report::refused(printer, b"guest");
@@ -177,16 +180,24 @@ impl Manager {
         requires fit { IsFit machine.old }
         requires turns { self.old.turns < MOST_TURNS }
         requires few { taken_by machine.old.hart < 2 ^ 62 }
-        ensures turn { (idle work : ℕ) (entered : List worlds.Entered) → IsTurn (world_of self.old machine.old.mem) (world_of self.new machine.new.mem)
-            result (taken_by machine.new.hart - taken_by machine.old.hart) idle work entered }
+        ensures turn { (idle work : ℕ) (earlier : List worlds.GuestEntry) →
+            IsTurn (world_of self.old machine.old.mem) (world_of self.new machine.new.mem) result
+            (taken_by machine.new.hart - taken_by machine.old.hart) idle work earlier }
+        ensures outside { SameElsewhere (memory_end self.old.guest)
+            machine.old.mem machine.new.mem }
+        ensures end { memory_end self.new.guest ≡ memory_end self.old.guest }
+        ensures kept { (earlier : worlds.RunSoFar) →
+            (worlds.one_turn earlier (worlds.pick (world_of self.old machine.old.mem))).entries ≡ []
+            → (earlier.entries ≡ []) × (machine.new.mem ≡ machine.old.mem) }
         ensures sound { IsSound self.new machine.new.mem }
         ensures fit { IsFit machine.new }
         ensures size { length machine.new.mem ≡ length machine.old.mem }
+        ensures area { machine.new.area ≡ machine.old.area }
         ensures turns { self.new.turns ≤ self.old.turns + 1 }
         ensures taken { taken_by machine.old.hart ≤ taken_by machine.new.hart }
-        ensures few { taken_by machine.new.hart ≤ taken_by machine.old.hart + 1000 }
+        ensures few { taken_by machine.new.hart ≤ taken_by machine.old.hart + 13000 }
     {
-        let Some(mut guest) = self.ready() else {
+        let Some(mut guest) = self.next_guest() else {
             self.pass();
             return true;
         };
@@ -197,11 +208,12 @@ impl Manager {
     }
 
     /// The guest whose turn it is.
-    fn ready(&self) -> Option<Guest>
+    fn next_guest(&self) -> Option<Guest>
         ensures picked { (bytes : List ℕ) → worlds.pick (world_of self.now bytes)
             ≡ option_map (λ g. live_guest g bytes) result }
         ensures there { IfSome result (λ g. self.now.guest ≡ Some g) }
-        ensures ready { IfSome result (λ g. (bytes : List ℕ) → worlds.is_ready (world_of self.now bytes) 0 (live_guest g bytes) ≡ true) }
+        ensures ready { IfSome result (λ g.
+            ready.is_ready 0 (time_of g self.now.clock) (lone_of g []) ≡ true) }
     {
         let guest = self.guest?;
         if guest.is_ready(self.clock) {
@@ -223,12 +235,17 @@ impl Manager {
         requires turns { self.old.turns + turns ≤ MOST_TURNS }
         requires few { taken_by machine.old.hart < 2 ^ 61 }
 
-        ensures end { IsRunEnd (worlds.run_of turns (world_of self.old machine.old.mem)) (world_of self.new machine.new.mem)
-            result (taken_by machine.old.hart) (taken_by machine.new.hart) }
+        ensures end { IsRunEnd (worlds.run_of turns (world_of self.old machine.old.mem))
+            (world_of self.new machine.new.mem) result
+            (taken_by machine.old.hart) (taken_by machine.new.hart) }
+        ensures keeps { Keeps (answers.ran_answer turns
+            (worlds.run_of turns (world_of self.old machine.old.mem)))
+            self.old machine.old.mem machine.new.mem }
         ensures sound { IsSound self.new machine.new.mem }
         ensures fit { IsFit machine.new }
         ensures size { length machine.new.mem ≡ length machine.old.mem }
-        ensures few { taken_by machine.new.hart ≤ taken_by machine.old.hart + 1000 * turns }
+        ensures area { machine.new.area ≡ machine.old.area }
+        ensures few { taken_by machine.new.hart ≤ taken_by machine.old.hart + 13000 * turns }
     {
         let mut idle = 0;
         for _made in 0..turns {
@@ -251,14 +268,18 @@ impl Manager {
         requires sound { IsSound self.old machine.old.mem }
         requires fit { IsFit machine.old }
         requires few { taken_by machine.old.hart < 2 ^ 61 }
-        ensures answer { Gives (answers.answer (world_of self.old machine.old.mem) (Command.Run turns))
-            printer.new (world_of self.new machine.new.mem) }
+        ensures answer { Gives (answers.answer (world_of self.old machine.old.mem)
+            (Command.Run turns)) printer.new (world_of self.new machine.new.mem) }
+        ensures keeps { Keeps (answers.answer (world_of self.old machine.old.mem)
+            (Command.Run turns)) self.old machine.old.mem machine.new.mem }
         ensures sound { IsSound self.new machine.new.mem }
         ensures fit { IsFit machine.new }
         ensures size { length machine.new.mem ≡ length machine.old.mem }
-        ensures work { taken_by machine.old.hart + answers.work_in (world_of self.old machine.old.mem) (Command.Run turns)
+        ensures area { machine.new.area ≡ machine.old.area }
+        ensures work { taken_by machine.old.hart
+            + (answers.answer (world_of self.old machine.old.mem) (Command.Run turns)).work
             ≤ taken_by machine.new.hart }
-        ensures few { taken_by machine.new.hart ≤ taken_by machine.old.hart + 2 ^ 30 }
+        ensures few { taken_by machine.new.hart ≤ taken_by machine.old.hart + 2 ^ 34 }
     {
         if MOST_TURNS - self.turns < turns {
             return report::refused(printer, b"turns");
@@ -267,7 +288,6 @@ impl Manager {
         report::ran(printer, u64::from(turns), u64::from(idle), self.clock);
     }
 
-    #[tactic(auto, unfolding(crate::specs::Answer::work_in))]
     /// One command: what it does, and its answer in the printer.
     pub fn apply<L: Ledger>(
         &mut self,
@@ -283,12 +303,16 @@ impl Manager {
         requires few { taken_by machine.old.hart < 2 ^ 61 }
         ensures answer { Gives (answers.answer (world_of self.old machine.old.mem) command.now)
             printer.new (world_of self.new machine.new.mem) }
+        ensures keeps { Keeps (answers.answer (world_of self.old machine.old.mem) command.now)
+            self.old machine.old.mem machine.new.mem }
         ensures sound { IsSound self.new machine.new.mem }
         ensures fit { IsFit machine.new }
         ensures size { length machine.new.mem ≡ length machine.old.mem }
-        ensures work { taken_by machine.old.hart + answers.work_in (world_of self.old machine.old.mem) command.now
+        ensures area { machine.new.area ≡ machine.old.area }
+        ensures work { taken_by machine.old.hart
+            + (answers.answer (world_of self.old machine.old.mem) command.now).work
             ≤ taken_by machine.new.hart }
-        ensures few { taken_by machine.new.hart ≤ taken_by machine.old.hart + 2 ^ 30 }
+        ensures few { taken_by machine.new.hart ≤ taken_by machine.old.hart + 2 ^ 34 }
     {
         match command {
             Command::Flat(name, pages) => self.flat(name, *pages, printer),

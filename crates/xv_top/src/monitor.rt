@@ -1,32 +1,30 @@
 //! The monitor: it answers what the hart leaves, so that hart and monitor together make a lone step.
-ghost use Rattle.std.specs.Prelude.{◌≡◌, ℕ, ◌+◌, ◌%◌, ◌^◌, ◌<◌, List, ◌∷◌, ◌++◌, [], length};
+ghost use Rattle.std.specs.Prelude.{◌≡◌, ℕ, ◌+◌, ◌^◌, ◌<◌, ◌≤◌, List, [], length};
+ghost use Rattle.xv_isa.specs.Length.{next_pc};
 ghost use Rattle.xv_hart.specs.Hart.{regs_of, taken_by, trail_of, room_of};
-ghost use Rattle.xv_hart.specs.Step.{inputs_of, state_of, trapped_regs, IsReady};
-ghost use Rattle.xv_hart.specs.Window.{IsWindowIn};
+ghost use Rattle.xv_hart.specs.Step.{after_trap, IsWellFormed};
 ghost use Rattle.xv_lone.specs.Step as lone;
-ghost use Rattle.xv_top.specs.Monitor.{handled, shows, host_after};
+ghost use Rattle.xv_lone.specs.Trail.{most_tries};
+ghost use Rattle.xv_top.specs.Guest.{plan_of, on_hart_of, view_of, after_of, IsPlaced, IsOnHart, Grows, SameElsewhere, host_end};
+ghost use Rattle.xv_top.specs.Monitor.{monitored, ecall_word};
+ghost use Rattle.xv_lone.specs.declared.vcpu.HartState.TheVariants as states;
+ghost use Rattle.xv_top.specs.declared.guest.Guest.{Guest};
 
+use crate::guest::Guest;
 use std::sync::ledger::Ledger;
-use xv_hart::{Exit, HTrap, Machine, Regs};
+use xv_csr::Lines;
+use xv_csr::cause::{
+    ENVIRONMENT_CALL_FROM_VS, INSTRUCTION_ACCESS_FAULT, INSTRUCTION_GUEST_PAGE_FAULT,
+    LOAD_ACCESS_FAULT, LOAD_GUEST_PAGE_FAULT, STORE_ACCESS_FAULT, VIRTUAL_INSTRUCTION,
+};
+use xv_hart::{Exit, HTrap, Hart, Machine, Regs};
+use xv_isa::next_pc;
 use xv_lone::HartState;
 use xv_mem::Steps;
 use xv_trap::enter;
 
-// causes of traps to the monitor (Privileged Architecture 20211203, 8.6.1)
-const CALL_FROM_SUPERVISOR: u8 = 10;
-
-const FETCH_PAGE_FAULT: u8 = 20;
-
-const LOAD_PAGE_FAULT: u8 = 21;
-
-const VIRTUAL_INSTRUCTION: u8 = 22;
-
-// causes of the access faults that a guest sees (table 4.2)
-const FETCH_FAULT: u64 = 1;
-
-const LOAD_FAULT: u64 = 5;
-
-const STORE_FAULT: u64 = 7;
+// the word of ECALL
+const ECALL: u32 = 0x0000_0073;
 
 // the answer of SBI to a call that it doesn't have
 const NOT_SUPPORTED: u64 = u64::MAX - 1;
@@ -36,88 +34,121 @@ const A0: usize = 10;
 
 const A1: usize = 11;
 
-/// One lone step of the VCPU that is on the hart, and whether it runs on.
-pub fn lone_step<L: Ledger>(machine: &mut Machine, steps: &mut Steps<L>) -> HartState
-    requires room { length (trail_of machine.old.hart) < room_of machine.old.hart }
-    requires ready { IsReady (regs_of machine.old.hart) }
-    requires window { IsWindowIn (length machine.old.mem) (regs_of machine.old.hart).window }
-    requires few { taken_by machine.old.hart < 2 ^ 63 }
+impl Guest {
+    /// One lone step, at guest time `time`, of the VCPU that is on the hart, and its hart state after
+    /// it. The interrupt lines are those of this moment.
+    pub fn lone_step<L: Ledger>(
+        &self,
+        machine: &mut Machine,
+        time: u64,
+        steps: &mut Steps<L>,
+    ) -> HartState
+        requires placed { IsPlaced self.now (length machine.old.mem) }
+        requires on { IsOnHart self.now time (regs_of machine.old.hart) }
+        requires formed { IsWellFormed (regs_of machine.old.hart) }
+        requires room { length (trail_of machine.old.hart) + most_tries
+            ≤ room_of machine.old.hart }
+        requires few { taken_by machine.old.hart < 2 ^ 63 }
 
-    ensures stepped { shows result (regs_of machine.new.hart) machine.new.mem
-        ≡ host_after (regs_of machine.old.hart) machine.old.mem }
-    ensures inputs { inputs_of (regs_of machine.new.hart) ≡ inputs_of (regs_of machine.old.hart) }
-    ensures window { (regs_of machine.new.hart).window ≡ (regs_of machine.old.hart).window }
-    ensures ready { IsReady (regs_of machine.new.hart) }
-    ensures taken { taken_by machine.new.hart ≡ taken_by machine.old.hart + 1 }
-    ensures trail { trail_of machine.new.hart ≡ trail_of machine.old.hart ++ regs_of machine.old.hart ∷ [] }
-    ensures room { room_of machine.new.hart ≡ room_of machine.old.hart }
-    ensures size { length machine.new.mem ≡ length machine.old.mem }
-    ensures area { machine.new.area ≡ machine.old.area }
-{
-    let Exit::Trap(trap) = machine.hart.step(&mut machine.mem, steps) else {
-        return HartState::Started;
-    };
-    let mut regs = *machine.hart.regs();
-    let hart = answer(&mut regs, &trap);
-    machine.hart.set_regs(&regs);
-    hart
+        ensures stepped { after_of self.now (regs_of machine.new.hart) machine.new.mem result
+            ≡ lone.stepped (plan_of self.now) 0 time
+            (on_hart_of self.now (regs_of machine.old.hart) machine.old.mem states.Started)
+            (view_of self.now (regs_of machine.old.hart) states.Started) }
+        ensures on { IsOnHart self.now time (regs_of machine.new.hart) }
+        ensures formed { IsWellFormed (regs_of machine.new.hart) }
+        ensures trail { Grows self.now (regs_of machine.old.hart) (trail_of machine.old.hart)
+            (trail_of machine.new.hart) }
+        ensures taken { taken_by machine.new.hart + length (trail_of machine.old.hart)
+            ≡ taken_by machine.old.hart + length (trail_of machine.new.hart) }
+        ensures room { room_of machine.new.hart ≡ room_of machine.old.hart }
+        ensures elsewhere { SameElsewhere (host_end self.now) machine.old.mem machine.new.mem }
+        ensures area { machine.new.area ≡ machine.old.area }
+    {
+        set_lines(&mut machine.hart, self.lines(time));
+        let Exit::Trap(trap) = machine.hart.step(&mut machine.mem, steps) else {
+            return HartState::Started;
+        };
+        let mut regs = *machine.hart.regs();
+        let state = self.answer(&mut regs, time, &trap);
+        machine.hart.set_regs(&regs);
+        state
+    }
+
+    /// Answers a trap: a call, a wait, or an access to memory that isn't there.
+    fn answer(&self, regs: &mut Regs, time: u64, trap: &HTrap) -> HartState
+        requires formed { IsWellFormed regs.old }
+        ensures monitored { (bytes : List ℕ) → after_of self.now regs.new bytes result
+            ≡ monitored (plan_of self.now) 0 time (on_hart_of self.now regs.old bytes states.Started)
+            (view_of self.now regs.old states.Started) trap.now }
+        ensures window { regs.new.window ≡ regs.old.window }
+        ensures time { regs.new.time ≡ regs.old.time }
+        ensures held { regs.new.held ≡ regs.old.held }
+        ensures formed { IsWellFormed regs.new }
+    {
+        match trap.cause as u64 {
+            ENVIRONMENT_CALL_FROM_VS => call(regs),
+            VIRTUAL_INSTRUCTION => self.wait(regs, time, trap.word),
+            INSTRUCTION_GUEST_PAGE_FAULT => fault(regs, INSTRUCTION_ACCESS_FAULT, trap.tval),
+            LOAD_GUEST_PAGE_FAULT => fault(regs, LOAD_ACCESS_FAULT, trap.tval),
+            _ => fault(regs, STORE_ACCESS_FAULT, trap.tval),
+        }
+    }
+
+    // WFI goes on, and its VCPU waits where no interrupt is pending and enabled.
+    fn wait(&self, regs: &mut Regs, time: u64, word: u32) -> HartState
+        requires formed { IsWellFormed regs.old }
+        ensures waits { (bytes : List ℕ) → after_of self.now regs.new bytes result
+            ≡ lone.waits (plan_of self.now) 0 time
+            (on_hart_of self.now regs.old bytes states.Started)
+            (view_of self.now regs.old states.Started) (next_pc regs.old.pc word) }
+        ensures others { regs.new ≡ record regs.old { pc = regs.new.pc } }
+        ensures formed { IsWellFormed regs.new }
+    {
+        regs.pc = next_pc(regs.pc, word);
+        if regs.csrs.pending(self.lines(time)) == 0 {
+            HartState::Waiting
+        } else {
+            HartState::Started
+        }
+    }
 }
 
-/// Answers a trap: an unknown call, a wait, or an access to memory that isn't there.
-fn answer(regs: &mut Regs, trap: &HTrap) -> HartState
-    requires { IsReady regs.old }
-    ensures handled { (bytes : List ℕ) → shows result regs.new bytes
-        ≡ handled trap.now (inputs_of regs.old) (state_of regs.old bytes) }
-    ensures inputs { inputs_of regs.new ≡ inputs_of regs.old }
-    ensures window { regs.new.window ≡ regs.old.window }
-    ensures ready { IsReady regs.new }
+// The interrupt lines of the hart, which a step may find changed.
+fn set_lines(hart: &mut Hart, lines: Lines)
+    ensures regs { regs_of hart.new ≡ record (regs_of hart.old) { lines = lines } }
+    ensures trail { trail_of hart.new ≡ trail_of hart.old }
+    ensures taken { taken_by hart.new ≡ taken_by hart.old }
+    ensures room { room_of hart.new ≡ room_of hart.old }
 {
-    match trap.cause {
-        CALL_FROM_SUPERVISOR => call(regs),
-        VIRTUAL_INSTRUCTION => wait(regs),
-        FETCH_PAGE_FAULT => fault(regs, FETCH_FAULT, trap.tval),
-        LOAD_PAGE_FAULT => fault(regs, LOAD_FAULT, trap.tval),
-        _ => fault(regs, STORE_FAULT, trap.tval),
+    if hart.regs().lines != lines {
+        let mut regs = *hart.regs();
+        regs.lines = lines;
+        hart.set_regs(&regs);
     }
 }
 
 // A call that isn't supported, as each is so far.
 fn call(regs: &mut Regs) -> HartState
-    requires { IsReady regs.old }
-    ensures called { (bytes : List ℕ) → shows result regs.new bytes ≡ lone.called (inputs_of regs.old) (state_of regs.old bytes) }
-    ensures inputs { inputs_of regs.new ≡ inputs_of regs.old }
-    ensures window { regs.new.window ≡ regs.old.window }
-    ensures ready { IsReady regs.new }
+    requires formed { IsWellFormed regs.old }
+    ensures calls { (g : Guest) (t : ℕ) (bytes : List ℕ) → after_of g regs.new bytes result
+        ≡ lone.calls (plan_of g) 0 t (on_hart_of g regs.old bytes states.Started)
+        (view_of g regs.old states.Started) (next_pc regs.old.pc ecall_word) }
+    ensures others { regs.new ≡ record regs.old { x = regs.new.x; pc = regs.new.pc } }
+    ensures formed { IsWellFormed regs.new }
 {
     regs.x[A0] = NOT_SUPPORTED;
     regs.x[A1] = 0;
-    regs.pc = regs.pc.wrapping_add(4);
+    regs.pc = next_pc(regs.pc, ECALL);
     HartState::Started
-}
-
-// WFI goes on, and its VCPU waits where no interrupt is pending and enabled.
-fn wait(regs: &mut Regs) -> HartState
-    requires { IsReady regs.old }
-    ensures waits { (bytes : List ℕ) → shows result regs.new bytes ≡ lone.waits (inputs_of regs.old) (state_of regs.old bytes) }
-    ensures inputs { inputs_of regs.new ≡ inputs_of regs.old }
-    ensures window { regs.new.window ≡ regs.old.window }
-    ensures ready { IsReady regs.new }
-{
-    regs.pc = regs.pc.wrapping_add(4);
-    if regs.csrs.pending(regs.lines) == 0 {
-        HartState::Waiting
-    } else {
-        HartState::Started
-    }
 }
 
 // An access fault of the guest, at the instruction that made the access.
 #[tactic(auto, using(xv_hart::proofs::StepLemmas::handler_aligned))]
 fn fault(regs: &mut Regs, cause: u64, va: u64) -> HartState
-    requires { IsReady regs.old }
+    requires formed { IsWellFormed regs.old }
     ensures started { result ≡ HartState.Started }
-    ensures regs { regs.new ≡ trapped_regs cause va regs.old }
-    ensures ready { IsReady regs.new }
+    ensures regs { regs.new ≡ after_trap cause va regs.old }
+    ensures formed { IsWellFormed regs.new }
 {
     let pc = enter(&mut regs.csrs, regs.user, cause, va, regs.pc);
     regs.pc = pc;

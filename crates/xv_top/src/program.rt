@@ -4,14 +4,14 @@ ghost use Rattle.std.specs.List.{All};
 ghost use Rattle.std.specs.String.{string_bytes};
 ghost use Rattle.xv_base.specs.Fault.{Rose};
 ghost use Rattle.xv_outside.specs.Outside.{taken_with, left_after, TookFront};
-ghost use Rattle.xv_top.specs.Boot.{AreRight, ReadsAtMost, IsServed, IsRun, IsRefused, IsCutShort, IsStatus, most_read};
+ghost use Rattle.xv_top.specs.Boot.{AllRan, IsStopped, AreRight, ReadsAtMost, IsServed, IsRun, IsRefused, IsCutShort, IsStatus, most_read};
 ghost use Rattle.xv_hart.specs.Hart.{taken_by};
-ghost use Rattle.xv_hart.specs.Machine.{IsBare, IsFit};
-ghost use Rattle.xv_top.specs.Manager.{world_of, IsSound, IsInRange};
-ghost use Rattle.xv_top.specs.Script.{commands};
+ghost use Rattle.xv_hart.specs.Machine.{area_of, IsBare, IsFit};
+ghost use Rattle.xv_top.specs.Layout.{memory_size, HasMib};
+ghost use Rattle.xv_top.specs.Manager.{world_of, IsSound};
+ghost use Rattle.xv_top.specs.Script.{commands, IsInRange};
 ghost use Rattle.xv_top.specs.Texts.{script_text};
-ghost use Rattle.xv_top.specs.Transcript.{answers, world_after, work_after, pool_frames, transcript};
-ghost use Rattle.xv_top.specs.World.{first_world};
+ghost use Rattle.xv_top.specs.Transcript.{transcript};
 
 use crate::command::Command;
 use crate::manager::Manager;
@@ -133,7 +133,7 @@ fn serve<S: Source, K: Sink>(
         return Err(Stop::NoMemory);
     };
     match read_script(alloc, source) {
-        Ok(text) => run_script(alloc, sink, machine, &text, mib, &mut printer),
+        Ok(text) => run_script(alloc, sink, machine, &text, &mut printer),
         Err(ReadFault::Failed) => Err(Stop::ReadFault),
         Err(ReadFault::NoMemory) => Err(Stop::NoMemory),
     }
@@ -145,18 +145,21 @@ fn run_script<K: Sink>(
     sink: &mut K,
     machine: &mut Machine,
     text: &[u8],
-    mib: u32,
     printer: &mut Printer,
 ) -> Result<(), Stop>
-    requires least { 8 ≤ mib }
-    requires most { mib ≤ 512 }
-    requires memory { machine.old.mem ≡ replicate (4096 * (256 * mib)) 0 }
+    requires size { HasMib (length machine.old.mem) }
+    requires zeros { machine.old.mem ≡ replicate (length machine.old.mem) 0 }
     requires taken { taken_by machine.old.hart ≡ 0 }
     requires fit { IsFit machine.old }
-    ensures served { OnOk result (IsServed mib text.now (K.taken sink.old) (K.taken sink.new) machine.new) }
+    ensures served { (mib : ℕ) → length machine.old.mem ≡ memory_size mib →
+        machine.old.area ≡ area_of mib 0 →
+        OnOk result (IsServed mib text.now (K.taken sink.old) (K.taken sink.new) machine.new) }
     ensures refused { IsErrOf result Stop.Refused → commands text.now ≡ None }
-    ensures refused_line { IsErrOf result Stop.Refused → K.taken sink.new ≡ taken_with (K.taken sink.old) script_text }
-    ensures write_fault { IsErrOf result Stop.WriteFault → TookFront (K.taken sink.old) (K.taken sink.new) (transcript mib text.now) }
+    ensures refused_line { IsErrOf result Stop.Refused →
+        K.taken sink.new ≡ taken_with (K.taken sink.old) script_text }
+    ensures write_fault { (mib : ℕ) → length machine.old.mem ≡ memory_size mib →
+        IsErrOf result Stop.WriteFault →
+        TookFront (K.taken sink.old) (K.taken sink.new) (transcript mib text.now) }
     ensures cause { IsErrOf result Stop.WriteFault → Rose (K.faults sink.old) (K.faults sink.new) }
     ensures memory { IsErrOf result Stop.NoMemory → sink.new ≡ sink.old }
     ensures read { IsErrOf result Stop.ReadFault → ⊥ }
@@ -208,16 +211,11 @@ fn run_counted<K: Sink, L: Ledger>(
     requires taken { taken_by machine.old.hart ≡ 0 }
     requires fit { IsFit machine.old }
 
-    ensures taken { OnOk result (K.taken sink.new
-        ≡ taken_with (K.taken sink.old) (answers (world_of manager.old machine.old.mem) all.now)) }
-    ensures world { OnOk result (world_of manager.new machine.new.mem
-        ≡ world_after (world_of manager.old machine.old.mem) all.now) }
-    ensures work { OnOk result (work_after (world_of manager.old machine.old.mem) all.now
-        ≤ taken_by machine.new.hart) }
-    ensures size { OnOk result (length machine.new.mem ≡ length machine.old.mem) }
-    ensures front { OnErr result (TookFront (K.taken sink.old) (K.taken sink.new)
-        (answers (world_of manager.old machine.old.mem) all.now)) }
-    ensures cause { OnErr result (Rose (K.faults sink.old) (K.faults sink.new)) }
+    ensures ran { OnOk result (AllRan all.now (world_of manager.old machine.old.mem)
+        (world_of manager.new machine.new.mem) (K.taken sink.old) (K.taken sink.new)
+        machine.old machine.new) }
+    ensures stopped { OnErr result (IsStopped all.now (world_of manager.old machine.old.mem)
+        (K.taken sink.old) (K.taken sink.new) (K.faults sink.old) (K.faults sink.new)) }
     ensures later { K.faults sink.old ≤ K.faults sink.new }
 {
     let mut steps = Steps::open(blank);
@@ -239,16 +237,11 @@ fn run_all<K: Sink, L: Ledger>(
     requires taken { taken_by machine.old.hart ≡ 0 }
     requires fit { IsFit machine.old }
 
-    ensures taken { OnOk result (K.taken sink.new
-        ≡ taken_with (K.taken sink.old) (answers (world_of manager.old machine.old.mem) all.now)) }
-    ensures world { OnOk result (world_of manager.new machine.new.mem
-        ≡ world_after (world_of manager.old machine.old.mem) all.now) }
-    ensures work { OnOk result (work_after (world_of manager.old machine.old.mem) all.now
-        ≤ taken_by machine.new.hart) }
-    ensures size { OnOk result (length machine.new.mem ≡ length machine.old.mem) }
-    ensures front { OnErr result (TookFront (K.taken sink.old) (K.taken sink.new)
-        (answers (world_of manager.old machine.old.mem) all.now)) }
-    ensures cause { OnErr result (Rose (K.faults sink.old) (K.faults sink.new)) }
+    ensures ran { OnOk result (AllRan all.now (world_of manager.old machine.old.mem)
+        (world_of manager.new machine.new.mem) (K.taken sink.old) (K.taken sink.new)
+        machine.old machine.new) }
+    ensures stopped { OnErr result (IsStopped all.now (world_of manager.old machine.old.mem)
+        (K.taken sink.old) (K.taken sink.new) (K.faults sink.old) (K.faults sink.new)) }
     ensures later { K.faults sink.old ≤ K.faults sink.new }
 {
     for command in all {

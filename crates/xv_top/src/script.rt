@@ -1,19 +1,20 @@
 //! The script: its grammar, line by line and word by word.
-ghost use Rattle.std.specs.Prelude.{◌≡◌, None, Some, map, option_map, IfOk, IsErrOf};
-ghost use Rattle.xv_top.specs.Script.{IsBuilt, lines, words, number_to, guest_of, is_of_guest, flat_line, poke_line, kick_line, run_line, regs_line, five_lines, commands_of, commands};
+ghost use Rattle.std.specs.Prelude.{◌≡◌, ◌≤◌, None, Some, length, map, option_map, IfOk, IfSome, IsErrOf};
+ghost use Rattle.std.specs.List.{All};
+ghost use Rattle.xv_top.specs.Script.{IsInRange, lines, words, number_to, guest_of, is_of_guest, flat_line, poke_line, kick_line, run_line, regs_line, five_lines, commands_of, commands};
 
 use crate::command::Command;
 use std::alloc::{AllocError, Global};
 use xv_base::{GuestName, NoMemory, hex_pairs_of, name_of, number_of};
 
 /// The most bytes of a script.
-const MOST_BYTES: usize = 1_048_576;
+pub const MOST_BYTES: usize = 1_048_576;
 
 /// The most pages of a guest.
 const MOST_PAGES: u32 = 131_072;
 
 /// The most turns of one `run`.
-const MOST_TURNS: u32 = 100_000;
+const MOST_RUN: u32 = 100_000;
 
 /// Why a script gives no commands.
 #[derive(Clone, Copy, Debug, PartialEq, Eq)]
@@ -50,7 +51,8 @@ impl From<AllocError> for ScriptFault {
 pub fn parse(alloc: Global, bytes: &[u8]) -> Result<Vec<Command>, ScriptFault>
     ensures ok { IfOk result (λ all. commands bytes.now ≡ Some all.items) }
     ensures unbuilt { IsErrOf result ScriptFault.Unbuilt → commands bytes.now ≡ None }
-    ensures built { IfOk result (λ all. IsBuilt all.items) }
+    ensures range { IfOk result (λ all. All IsInRange all.items) }
+    ensures few { IfOk result (λ all. length all.items ≡ 5) }
 {
     if MOST_BYTES < bytes.len() {
         return Err(ScriptFault::Unbuilt);
@@ -65,6 +67,8 @@ fn commands_of(alloc: Global, lines: &[&[u8]]) -> Result<Vec<Command>, ScriptFau
     ensures ok { IfOk result (λ all. commands_of (map (λ line. line.now) lines.now) ≡ Some all.items) }
     ensures unbuilt { IsErrOf result ScriptFault.Unbuilt
         → commands_of (map (λ line. line.now) lines.now) ≡ None }
+    ensures range { IfOk result (λ all. All IsInRange all.items) }
+    ensures few { IfOk result (λ all. length all.items ≡ 5) }
 {
     match lines {
         [first, second, third, fourth, fifth, rest] if rest.is_empty() => {
@@ -88,6 +92,8 @@ fn five_lines(
         (λ all. five_lines first.now second.now third.now fourth.now fifth.now ≡ Some all.items) }
     ensures unbuilt { IsErrOf result ScriptFault.Unbuilt
         → five_lines first.now second.now third.now fourth.now fifth.now ≡ None }
+    ensures range { IfOk result (λ all. All IsInRange all.items) }
+    ensures few { IfOk result (λ all. length all.items ≡ 5) }
 {
     let first = words_of(alloc, first)?;
     let second = words_of(alloc, second)?;
@@ -120,7 +126,8 @@ fn words_of<'a>(alloc: Global, line: &'a [u8]) -> Result<Vec<&'a [u8]>, AllocErr
 /// A number from 1 to the limit.
 #[tactic(auto, unfolding(crate::specs::Script::number_to))]
 fn number_to(limit: u32, bytes: &[u8]) -> Option<u32>
-    ensures { result ≡ number_to limit bytes.now }
+    ensures value { result ≡ number_to limit bytes.now }
+    ensures range { IfSome result (λ value. (1 ≤ value) × (value ≤ limit)) }
 {
     let value = number_of(bytes)?;
     if 1 <= value && value <= u64::from(limit) {
@@ -152,7 +159,8 @@ fn is_of_guest(verb: &[u8], name: GuestName, first: &[u8], second: &[u8], third:
 /// `guest flat N PAGES`
 #[tactic(auto, unfolding(crate::specs::Script::flat_line), using(crate::proofs::ScriptLemmas::flat_line_words))]
 fn flat_line(name: GuestName, words: &[&[u8]]) -> Option<Command>
-    ensures { result ≡ flat_line name (map (λ word. word.now) words.now) }
+    ensures command { result ≡ flat_line name (map (λ word. word.now) words.now) }
+    ensures range { IfSome result IsInRange }
 {
     match words {
         [guest, flat, word, pages] if is_of_guest(b"flat", name, guest, flat, word) => {
@@ -166,7 +174,9 @@ fn flat_line(name: GuestName, words: &[&[u8]]) -> Option<Command>
 /// `guest poke N GPA HEX`
 #[tactic(auto, unfolding(crate::specs::Script::poke_line), using(crate::proofs::ScriptLemmas::poke_line_words))]
 fn poke_line(alloc: Global, name: GuestName, words: &[&[u8]]) -> Result<Option<Command>, NoMemory>
-    ensures { IfOk result (λ poke. poke ≡ poke_line name (map (λ word. word.now) words.now)) }
+    ensures command { IfOk result (λ poke.
+        poke ≡ poke_line name (map (λ word. word.now) words.now)) }
+    ensures range { IfOk result (λ poke. IfSome poke IsInRange) }
 {
     match words {
         [guest, poke, word, gpa, hex] if is_of_guest(b"poke", name, guest, poke, word) => {
@@ -185,7 +195,8 @@ fn poke_line(alloc: Global, name: GuestName, words: &[&[u8]]) -> Result<Option<C
 /// `guest kick N`
 #[tactic(auto, unfolding(crate::specs::Script::kick_line), using(crate::proofs::ScriptLemmas::kick_line_words))]
 fn kick_line(name: GuestName, words: &[&[u8]]) -> Option<Command>
-    ensures { result ≡ kick_line name (map (λ word. word.now) words.now) }
+    ensures command { result ≡ kick_line name (map (λ word. word.now) words.now) }
+    ensures range { IfSome result IsInRange }
 {
     match words {
         [guest, kick, word] if is_of_guest(b"kick", name, guest, kick, word) => {
@@ -198,11 +209,12 @@ fn kick_line(name: GuestName, words: &[&[u8]]) -> Option<Command>
 /// `run T`
 #[tactic(auto, unfolding(crate::specs::Script::run_line), using(crate::proofs::ScriptLemmas::run_line_words))]
 fn run_line(words: &[&[u8]]) -> Option<Command>
-    ensures { result ≡ run_line (map (λ word. word.now) words.now) }
+    ensures command { result ≡ run_line (map (λ word. word.now) words.now) }
+    ensures range { IfSome result IsInRange }
 {
     match words {
         [run, turns] if *run == b"run".as_slice() => {
-            let turns = number_to(MOST_TURNS, turns)?;
+            let turns = number_to(MOST_RUN, turns)?;
             Some(Command::Run(turns))
         }
         _ => None,
@@ -212,7 +224,8 @@ fn run_line(words: &[&[u8]]) -> Option<Command>
 /// `guest regs N 0`
 #[tactic(auto, unfolding(crate::specs::Script::regs_line), using(crate::proofs::ScriptLemmas::regs_line_words))]
 fn regs_line(name: GuestName, words: &[&[u8]]) -> Option<Command>
-    ensures { result ≡ regs_line name (map (λ word. word.now) words.now) }
+    ensures command { result ≡ regs_line name (map (λ word. word.now) words.now) }
+    ensures range { IfSome result IsInRange }
 {
     match words {
         [guest, regs, word, vcpu] if is_of_guest(b"regs", name, guest, regs, word) => {

@@ -11,6 +11,7 @@ invariant-loop-command g l = record {
   sound : IsSound l.manager l.machine.mem;
   fit : IsFit l.machine;
   size : length l.machine.mem ≡ length l.fn.machine.mem;
-  few : taken_by l.machine.hart ≤ l.command-index * 2 ^ 30;
+  area : l.machine.area ≡ l.fn.machine.area;
+  few : taken_by l.machine.hart ≤ l.command-index * 2 ^ 34;
   quiet : g.K.Sink.faults l.sink ≡ g.K.Sink.faults l.fn.sink;
 }

@@ -1,4 +1,6 @@
-use Rattle.std.proofs.Common.{subst, sym}
+use Rattle.std.proofs.Common.{◌∙◌, length, subst, sym, ap}
+use Rattle.std.proofs.lemmas.List.{length-replicate}
+use Rattle.xv_top.specs.Layout.{memory_size}
 use Rattle.std.proofs.lemmas.Result.{on_ok_weaker}
 use Rattle.xv_top.specs.Boot.{IsTextOf}
 use Rattle.xv_top.proofs.BootLemmas.{run_is, refused_is, cut_is}
@@ -8,7 +10,7 @@ pub returns-in-Ok-read_script-clause-run : goal.returns-in-Ok-read_script-clause
 returns-in-Ok-read_script-clause-run g c =
     let left = g.S.Source.left c.args.source.now in
     let told = subst (IsTextOf left) (sym c.deref.ensures.value) c.in-Ok-read_script.ensures.text in
-    on_ok_weaker c.run_script.result (run_is c.args.mib left (g.S.Source.left c.read_script.new.source) (g.K.Sink.taken c.args.sink.now) (g.K.Sink.taken c.run_script.new.sink) c.deref.result.now told c.run_script.new.machine c.in-Ok-read_script.ensures.left) c.run_script.ensures.served
+    on_ok_weaker c.run_script.result (run_is c.args.mib left (g.S.Source.left c.read_script.new.source) (g.K.Sink.taken c.args.sink.now) (g.K.Sink.taken c.run_script.new.sink) c.deref.result.now told c.run_script.new.machine c.in-Ok-read_script.ensures.left) (c.run_script.ensures.served c.args.mib (ap length c.in-Ok.ensures.memory ∙ length-replicate (memory_size c.args.mib) 0) c.in-Ok.ensures.area)
 
 pub returns-in-Ok-read_script-clause-refused : goal.returns-in-Ok-read_script-clause-refused
 returns-in-Ok-read_script-clause-refused g c h =
@@ -20,4 +22,4 @@ pub returns-in-Ok-read_script-clause-write_fault : goal.returns-in-Ok-read_scrip
 returns-in-Ok-read_script-clause-write_fault g c h =
     let left = g.S.Source.left c.args.source.now in
     let told = subst (IsTextOf left) (sym c.deref.ensures.value) c.in-Ok-read_script.ensures.text in
-    cut_is c.args.mib left (g.S.Source.left c.read_script.new.source) (g.K.Sink.taken c.args.sink.now) (g.K.Sink.taken c.run_script.new.sink) c.deref.result.now told (g.K.Sink.faults c.args.sink.now) (g.K.Sink.faults c.run_script.new.sink) (c.run_script.ensures.write_fault h) (c.run_script.ensures.cause h)
+    cut_is c.args.mib left (g.S.Source.left c.read_script.new.source) (g.K.Sink.taken c.args.sink.now) (g.K.Sink.taken c.run_script.new.sink) c.deref.result.now told (g.K.Sink.faults c.args.sink.now) (g.K.Sink.faults c.run_script.new.sink) (c.run_script.ensures.write_fault c.args.mib (ap length c.in-Ok.ensures.memory ∙ length-replicate (memory_size c.args.mib) 0) h) (c.run_script.ensures.cause h)

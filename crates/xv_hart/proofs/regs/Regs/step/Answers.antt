@@ -3,7 +3,7 @@ use Rattle.xv_isa.specs.Operands.{decode_of}
 use Rattle.xv_pte.specs.declared.access.Kind3.TheVariants as kinds
 use Rattle.xv_step.specs.Outcome.{Target}
 use Rattle.xv_step.specs.Step.{executed, at_word}
-use Rattle.xv_hart.specs.Window.{window_bus}
+use Rattle.xv_hart.specs.Memory.{bus_of}
 use Rattle.xv_hart.specs.Step.{exit_of, state_of, inputs_of}
 use Rattle.xv_hart.proofs.StepLemmas.{came_trapped, fetch_of, step_is}
 use Rattle.xv_hart.proofs.regs.Regs.step.Goals as goal
@@ -20,18 +20,18 @@ returns-in-Err-clause-step g c =
     let r = c.args.self.now in
     let bytes = c.args.mem.now in
     ◌∙◌ {b = fetch_of r bytes}
-    (c.in-Err.ensures.stops bytes (Target kinds.Fetch r.pc) (at_word (window_bus r.window) (inputs_of r) (state_of r bytes)) refl)
+    (c.in-Err.ensures.stops (Target kinds.Fetch r.pc) (at_word (bus_of r) (inputs_of r) (state_of r bytes)) (λ gpa. refl))
     (sym (step_is r bytes None (sym c.chosen.ensures ∙ c.in_default.is)))
 
 pub returns-clause-step : goal.returns-clause-step
 returns-clause-step g c =
     let r = c.args.self.now in
     let bytes = c.args.mem.now in
-    let bus = window_bus r.window in
+    let bus = bus_of r in
     ◌∙◌ {b = fetch_of r bytes}
     (◌∙◌ {b = exit_of r bytes (at_word bus (inputs_of r) (state_of r bytes) c.in-Ok.at)}
     (◌∙◌ {b = exit_of r bytes (executed bus (inputs_of r) (state_of r bytes) c.read32-word.result (decode_of c.read32-word.result))}
     c.execute.ensures.came
     (ap (λ word. exit_of r bytes (executed bus (inputs_of r) (state_of r bytes) word (decode_of word))) c.read32-word.ensures.value))
-    (sym (ap (exit_of r bytes) (c.in-Ok.ensures.reaches bytes (Target kinds.Fetch r.pc) (at_word bus (inputs_of r) (state_of r bytes))))))
+    (sym (ap (exit_of r bytes) (c.in-Ok.ensures.reaches (Target kinds.Fetch r.pc) (at_word bus (inputs_of r) (state_of r bytes))))))
     (sym (step_is r bytes None (sym c.chosen.ensures ∙ c.in_default.is)))

@@ -1,6 +1,6 @@
 use Rattle.std.proofs.Common.{◌∙◌, subst, sym, ap, length}
 use Rattle.xv_hart.specs.Window.{host_of}
-use Rattle.xv_top.specs.Guest.{lone_of, SameElsewhere}
+use Rattle.xv_top.specs.Guest.{lone_of, host_end, SameElsewhere}
 use Rattle.xv_top.proofs.GuestLemmas.{same_load, some_load, load_elsewhere}
 use Rattle.xv_top.proofs.guest.Guest.load.Goals as goal
 
@@ -22,6 +22,6 @@ pub returns-clause-elsewhere : goal.returns-clause-elsewhere
 returns-clause-elsewhere c =
     let g = c.args.self.now in
     let n = length c.args.bytes.now in
-    subst (SameElsewhere g c.args.mem.now) (sym c.copy_in.ensures.bytes)
+    subst (SameElsewhere (host_end g) c.args.mem.now) (sym c.copy_in.ensures.bytes)
     (load_elsewhere g c.args.mem.now c.args.bytes.now c.args.gpa c.in-Some.at c.requires.pages
     (ap (λ w. host_of w n c.args.gpa) (sym c.window.ensures) ∙ (sym c.host_of.ensures ∙ c.in-Some.is)))

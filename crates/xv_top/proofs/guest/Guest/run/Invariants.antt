@@ -1,23 +1,24 @@
-use Rattle.std.proofs.Common.{◌≡◌, ◌+◌, length}
+use Rattle.std.proofs.Common.{◌≡◌, ◌+◌, ◌*◌, ◌≤◌, length}
 use Rattle.std.specs.List.{All}
 use Rattle.xv_hart.specs.Hart.{regs_of, taken_by, trail_of}
 use Rattle.xv_hart.specs.Machine.{IsFit}
-use Rattle.xv_hart.specs.Step.{IsReady}
-use Rattle.xv_top.specs.Guest.{window_of}
+use Rattle.xv_hart.specs.Step.{IsWellFormed}
+use Rattle.xv_top.specs.Guest.{window_of, host_end, IsOnHart, SameElsewhere}
 use Rattle.xv_top.proofs.TurnLemmas.{IsTurning}
 use Rattle.xv_top.proofs.guest.Guest.run.Given as goal
 
--- so many lone steps of the turn are made, each with its entry in the trail
+-- so many lone steps of the turn are made, each with its piece of the trail
 abbrev pub invariant-loop-made : goal.invariant-loop-made
 invariant-loop-made g l =
     let hart = l.machine.hart in
     record {
       turning : IsTurning l.self l.time l.fn.machine.mem l._made (regs_of hart) l.machine.mem (trail_of hart);
-      ready : IsReady (regs_of hart);
+      on : IsOnHart l.self l.time (regs_of hart);
+      formed : IsWellFormed (regs_of hart);
       windows : All (λ r. r.window ≡ window_of l.self) (trail_of hart);
-      trail : length (trail_of hart) ≡ l._made;
-      taken : taken_by hart ≡ taken_by l.fn.machine.hart + l._made;
-      size : length l.machine.mem ≡ length l.fn.machine.mem;
+      few : length (trail_of hart) ≤ 13 * l._made;
+      taken : taken_by hart ≡ taken_by l.fn.machine.hart + length (trail_of hart);
+      elsewhere : SameElsewhere (host_end l.self) l.fn.machine.mem l.machine.mem;
       area : l.machine.area ≡ l.fn.machine.area;
       fit : IsFit l.machine;
     }

@@ -4,9 +4,9 @@ use Rattle.xv_lone.specs.Plan.{flat, need}
 use Rattle.xv_top.specs.Texts.{frames_text, created_text}
 use Rattle.xv_top.specs.World.{guest_named}
 use Rattle.xv_top.specs.Answer.{refused, created}
-use Rattle.xv_top.specs.Guest.{live_guest, IsHeld}
-use Rattle.xv_top.specs.Manager.{world_of, GuestIsSound}
-use Rattle.xv_top.proofs.ManagerLemmas.{gives_by, flat_is, is_some-map, some_guests, none_there, no_guest, no_frames, flat_alone, same_none, born, new_held}
+use Rattle.xv_top.specs.Guest.{IsPlaced}
+use Rattle.xv_top.specs.Manager.{live_guest, world_of, GuestIsSound}
+use Rattle.xv_top.proofs.ManagerLemmas.{gives_by, flat_is, is_some-map, some_guests, none_there, no_guest, no_frames, flat_alone, same_none, born, new_placed}
 use Rattle.xv_top.proofs.manager.Manager.flat.Goals as goal
 
 pub returns-then-is_some-clause-answer : goal.returns-then-is_some-clause-answer
@@ -65,6 +65,6 @@ returns-clause-sound c bytes sound =
       pool = sound.pool;
       small = sound.small;
       turns = sound.turns;
-      guest = subst (λ g. IsHeld g (length bytes)) (sym c.new.ensures)
-          (new_held c.args.name.now c.args.pages c.args.self.now.clock (length bytes) c.requires.pages.0 (omega (arith, sound.pool, enough, c.frames_needed-needed.ensures.more, c.frames_needed-needed.ensures.need)) sound.small);
+      guest = subst (λ g. IsPlaced g (length bytes)) (sym c.new.ensures)
+          (new_placed c.args.name.now c.args.pages c.args.self.now.clock (length bytes) c.requires.pages.0 (omega (arith, sound.pool, enough, c.frames_needed-needed.ensures.more, c.frames_needed-needed.ensures.need)) sound.small);
     }

@@ -1,12 +1,11 @@
-use Rattle.std.proofs.Common.{[], ◌∷◌, ◌∙◌, None, Some, refl, sym, ap, codes}
+use Rattle.std.proofs.Common.{◌∙◌, None, Some, refl, sym, ap, codes}
 use Rattle.std.proofs.lemmas.Bool.{cond-true, cond-false}
 use Rattle.xv_lone.specs.Journal.{Kick}
 use Rattle.xv_top.specs.Texts.{kicked_text}
-use Rattle.xv_top.specs.World.{is_reset, entered}
-use Rattle.xv_top.specs.Answer.{refused}
-use Rattle.xv_top.specs.Guest.{live_guest}
-use Rattle.xv_top.specs.Manager.{world_of}
-use Rattle.xv_top.proofs.ManagerLemmas.{gives_by, kick_is, entered_one}
+use Rattle.xv_lone.specs.Ready.{is_reset}
+use Rattle.xv_top.specs.Answer.{refused, changes}
+use Rattle.xv_top.specs.Manager.{live_guest, world_of}
+use Rattle.xv_top.proofs.ManagerLemmas.{gives_by, kick_is, change_one}
 use Rattle.xv_top.proofs.manager.Manager.kick.Goals as goal
 
 pub returns-in_default-clause-answer : goal.returns-in_default-clause-answer
@@ -28,10 +27,10 @@ returns-clause-answer c bytes =
     let w = world_of c.args.self.now bytes in
     let name = c.args.name.now in
     let g = c.in-Some.guest in
-    gives_by _ (record { text = kicked_text name; world = entered name Kick w; entered = record { name = name; entry = Kick } ∷ [] })
+    gives_by _ (changes w name Kick (kicked_text name))
     (kick_is w name (Some (live_guest g bytes)) (c.in-Some.ensures.guest bytes)
     ∙ cond-true (is_reset g.state) _ _ (sym c.if-not-is_reset.ensures))
     (record {
       text = c.kicked.ensures ∙ ap kicked_text c.bytes.ensures.value;
-      world = entered_one c.args.self.now g c.kick.new.self bytes bytes name Kick c.in-Some.ensures.there.0 c.in-Some.ensures.there.1 (ap (λ h. live_guest h bytes) c.kick.ensures);
+      world = change_one c.args.self.now g c.kick.new.self bytes bytes name Kick c.in-Some.ensures.there.0 c.in-Some.ensures.there.1 (ap (λ h. live_guest h bytes) c.kick.ensures);
     })

@@ -1,9 +1,8 @@
-use Rattle.std.proofs.Common.{[], ◌∙◌, None, Some, refl, ap, codes}
+use Rattle.std.proofs.Common.{◌∙◌, None, Some, refl, ap, codes}
 use Rattle.xv_top.specs.Texts.{regs_text}
 use Rattle.xv_top.specs.declared.command.Command.TheVariants.{Regs}
-use Rattle.xv_top.specs.Answer.{answer, refused, regs_of_vcpu}
-use Rattle.xv_top.specs.Guest.{live_guest}
-use Rattle.xv_top.specs.Manager.{world_of}
+use Rattle.xv_top.specs.Answer.{answer, says, refused, regs_of_vcpu}
+use Rattle.xv_top.specs.Manager.{live_guest, world_of}
 use Rattle.xv_top.proofs.ManagerLemmas.{gives_by, regs_is, no_vcpu}
 use Rattle.xv_top.proofs.manager.Manager.regs.Goals as goal
 
@@ -26,6 +25,6 @@ returns c bytes =
     let w = world_of c.args.self.now bytes in
     let g = c.in-Some.guest in
     let name = c.args.name.now in
-    gives_by _ (record { text = regs_text name 0 g.view; world = w; entered = [] })
+    gives_by _ (says w (regs_text name 0 g.view))
     (ap (λ v. answer w (Regs name v)) c.if-vcpu-ne0.false ∙ regs_is w name 0 (Some (live_guest g bytes)) (c.in-Some.ensures.guest bytes))
     (record { text = c.regs.ensures ∙ (ap (λ n. regs_text n c.args.vcpu g.view) c.bytes.ensures.value ∙ ap (λ v. regs_text name v g.view) c.if-vcpu-ne0.false); world = refl })

@@ -1,10 +1,10 @@
 use Rattle.std.proofs.Common.{◌∙◌, ◌+◌, ◌<◌, ◌≤◌, refl, sym, ap, codes, arith}
 use Rattle.std.proofs.lemmas.Bool.{cond-true, cond-false, lt-ltb, le-ltb}
 use Rattle.xv_top.specs.Texts.{ran_text}
-use Rattle.xv_top.specs.World.{run_of}
-use Rattle.xv_top.specs.Answer.{refused, most_turns}
+use Rattle.xv_top.specs.World.{most_turns, run_of}
+use Rattle.xv_top.specs.Answer.{Answer, answer, refused, ran_answer}
 use Rattle.xv_top.specs.Manager.{world_of}
-use Rattle.xv_top.proofs.ManagerLemmas.{gives_by, run_is, work_is}
+use Rattle.xv_top.proofs.ManagerLemmas.{gives_by, keeps_by, keeps_all, run_is}
 use Rattle.xv_top.proofs.manager.Manager.run.Goals as goal
 
 pub returns-then-self-turns-clause-answer : goal.returns-then-self-turns-clause-answer
@@ -13,11 +13,14 @@ returns-then-self-turns-clause-answer g c =
     let many : most_turns < w.turns + c.args.turns = omega (arith, c.if-self-turns.true, c.requires.sound.turns) in
     gives_by _ (refused w (codes "turns")) (run_is w c.args.turns ∙ cond-true _ _ _ (lt-ltb most_turns (w.turns + c.args.turns) many)) (record { text = c.refused.ensures; world = refl })
 
+pub returns-then-self-turns-clause-keeps : goal.returns-then-self-turns-clause-keeps
+returns-then-self-turns-clause-keeps g c = keeps_all _ c.args.self.now c.args.machine.now.mem c.args.machine.now.mem refl
+
 pub returns-then-self-turns-clause-work : goal.returns-then-self-turns-clause-work
 returns-then-self-turns-clause-work g c =
     let w = world_of c.args.self.now c.args.machine.now.mem in
     let many : most_turns < w.turns + c.args.turns = omega (arith, c.if-self-turns.true, c.requires.sound.turns) in
-    omega (arith, work_is w c.args.turns ∙ cond-true _ 0 (run_of c.args.turns w).work (lt-ltb most_turns (w.turns + c.args.turns) many))
+    omega (arith, ap (λ (a : Answer). a.work) (run_is w c.args.turns ∙ cond-true _ _ _ (lt-ltb most_turns (w.turns + c.args.turns) many)))
 
 pub returns-clause-answer : goal.returns-clause-answer
 returns-clause-answer g c =
@@ -25,7 +28,7 @@ returns-clause-answer g c =
     let run = run_of c.args.turns w in
     let few : w.turns + c.args.turns ≤ most_turns = omega (arith, c.if-self-turns.false, c.requires.sound.turns) in
     let end = c.make_turns-idle.ensures.end in
-    gives_by _ (record { text = ran_text c.args.turns run.idle run.world.clock; world = run.world; entered = run.entered })
+    gives_by _ (ran_answer c.args.turns run)
     (run_is w c.args.turns ∙ cond-false _ _ _ (le-ltb most_turns (w.turns + c.args.turns) few))
     (record {
       text = c.ran.ensures
@@ -35,8 +38,14 @@ returns-clause-answer g c =
       world = sym end.world;
     })
 
+pub returns-clause-keeps : goal.returns-clause-keeps
+returns-clause-keeps g c =
+    let w = world_of c.args.self.now c.args.machine.now.mem in
+    let few : w.turns + c.args.turns ≤ most_turns = omega (arith, c.if-self-turns.false, c.requires.sound.turns) in
+    keeps_by _ (ran_answer c.args.turns (run_of c.args.turns w)) (run_is w c.args.turns ∙ cond-false _ _ _ (le-ltb most_turns (w.turns + c.args.turns) few)) c.make_turns-idle.ensures.keeps
+
 pub returns-clause-work : goal.returns-clause-work
 returns-clause-work g c =
     let w = world_of c.args.self.now c.args.machine.now.mem in
     let few : w.turns + c.args.turns ≤ most_turns = omega (arith, c.if-self-turns.false, c.requires.sound.turns) in
-    omega (arith, c.make_turns-idle.ensures.end.work, work_is w c.args.turns ∙ cond-false _ 0 (run_of c.args.turns w).work (le-ltb most_turns (w.turns + c.args.turns) few))
+    omega (arith, c.make_turns-idle.ensures.end.work, ap (λ (a : Answer). a.work) (run_is w c.args.turns ∙ cond-false _ _ _ (le-ltb most_turns (w.turns + c.args.turns) few)))
