@@ -1,0 +1,18 @@
+//! Flattened device trees, read and written (Devicetree Specification v0.4, chapter 5).
+#![tactic(auto)]
+
+mod blocks;
+mod fault;
+mod header;
+mod name;
+mod names;
+mod nodes;
+mod properties;
+mod reading;
+mod token;
+mod tree;
+
+pub use fault::{FdtFault, FdtKind};
+pub use name::NodeName;
+pub use reading::read;
+pub use tree::{Node, Prop, Tree};
