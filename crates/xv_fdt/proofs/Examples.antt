@@ -8,7 +8,7 @@ use Rattle.xv_fdt.specs.Header.{header, keeps, has_zero_pair}
 use Rattle.xv_fdt.specs.Token.{text, mark_at, name_at, property_at, token_at, tokens_up_to, tokens}
 use Rattle.xv_fdt.specs.Tree.{Property, Entry}
 use Rattle.xv_fdt.specs.Grammar.{properties, nodes, children, tree}
-use Rattle.xv_fdt.specs.Written.{big_word, with_padding, names_bytes, strings_bytes, begin_bytes, property_bytes, properties_bytes, ends, structure_bytes, written}
+use Rattle.xv_fdt.specs.Written.{big_word, with_padding, names_bytes, strings_bytes, begin_bytes, property_bytes, properties_bytes, ends, structure_bytes, words_bytes, written}
 
 words : List ℕ → List ℕ
 words [] = []
@@ -109,11 +109,11 @@ little =
     ∷ []
 
 written_least : written (root [] ∷ []) ≡ least
-unfolding written structure_bytes strings_bytes names_bytes properties_bytes property_bytes begin_bytes ends with_padding big_word least file words root node
+unfolding written words_bytes structure_bytes strings_bytes names_bytes properties_bytes property_bytes begin_bytes ends with_padding big_word least file words root node
 written_least = refl
 
 written_little : written little ≡
     file (1 ∷ 0 ∷ 3 ∷ 5 ∷ 0 ∷ 0x01020304 ∷ 0x05000000 ∷ 1 ∷ a ∷ 1 ∷ 0x61626364 ∷ 0 ∷ 3 ∷ 0 ∷ 2 ∷ 2 ∷ 2 ∷ 1 ∷ 0x62000000 ∷ 2 ∷ 2 ∷ 9 ∷ [])
     (0x61 ∷ 0 ∷ 0x62 ∷ 0x63 ∷ 0 ∷ [])
-unfolding written structure_bytes strings_bytes names_bytes properties_bytes property_bytes begin_bytes ends with_padding big_word file words root node little a
+unfolding written words_bytes structure_bytes strings_bytes names_bytes properties_bytes property_bytes begin_bytes ends with_padding big_word file words root node little a
 written_little = refl

@@ -5,3 +5,4 @@ pub mod PropertyLemmas
 pub mod NodeLemmas
 pub mod RootLemmas
 pub mod Examples
+pub mod WritingLemmas

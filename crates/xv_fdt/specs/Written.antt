@@ -53,22 +53,27 @@ structure_bytes open_nodes offset (e ∷ es) =
 
 -- ---- the whole
 
--- the ten fields of the header for blocks of these sizes: the reservation block has 16 bytes, and the structure
--- begins at 56
-abbrev pub header_bytes : ℕ → ℕ → List ℕ
-header_bytes structure_size strings_size =
-    big_word 0xd00dfeed
-    ++ (big_word (56 + structure_size + strings_size)
-    ++ (big_word 56
-    ++ (big_word (56 + structure_size)
-    ++ (big_word 40
-    ++ (big_word 17
-    ++ (big_word 16
-    ++ (big_word 0
-    ++ (big_word strings_size
-    ++ big_word structure_size))))))))
+unfoldable pub words_bytes : List ℕ → List ℕ
+words_bytes [] = []
+words_bytes (number ∷ numbers) = big_word number ++ words_bytes numbers
+
+-- the ten fields of the header for blocks of these sizes (5.2): the reservation block stands at 40 and has 16
+-- bytes, the structure begins at 56, the version is 17 and the last compatible version 16
+abbrev pub header_fields : ℕ → ℕ → List ℕ
+header_fields structure_size strings_size =
+    0xd00dfeed
+    ∷ (56 + structure_size + strings_size)
+    ∷ 56
+    ∷ (56 + structure_size)
+    ∷ 40
+    ∷ 17
+    ∷ 16
+    ∷ 0
+    ∷ strings_size
+    ∷ structure_size
+    ∷ []
 
 unfoldable pub written : List Entry → List ℕ
 written es =
-    header_bytes (length (structure_bytes 0 0 es)) (length (strings_bytes es))
+    words_bytes (header_fields (length (structure_bytes 0 0 es)) (length (strings_bytes es)))
     ++ (replicate 16 0 ++ (structure_bytes 0 0 es ++ strings_bytes es))

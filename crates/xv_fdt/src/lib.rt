@@ -11,8 +11,10 @@ mod properties;
 mod reading;
 mod token;
 mod tree;
+mod writing;
 
 pub use fault::{FdtFault, FdtKind};
 pub use name::NodeName;
 pub use reading::read;
 pub use tree::{Node, Prop, Tree};
+pub use writing::write;
