@@ -6,3 +6,7 @@ pub mod NodeLemmas
 pub mod RootLemmas
 pub mod Examples
 pub mod WritingLemmas
+pub mod PieceLemmas
+pub mod NodesAgain
+pub mod HeaderAgain
+pub mod TreeAgain

@@ -29,7 +29,7 @@ Fails-with_front faults.NoMemory front r fails = tt
 
 -- ---- the first property, and those behind it
 
-properties-first : (taken : Names) (at : ℕ) (read : Result Property FdtKind) (p : Property) (ts : List Token) → property taken at read ≡ Ok p
+pub properties-first : (taken : Names) (at : ℕ) (read : Result Property FdtKind) (p : Property) (ts : List Token) → property taken at read ≡ Ok p
     → properties taken (Prop at read ∷ ts) ≡ with_front (p ∷ []) (properties (with_name taken p.name) ts)
 unfolding properties
 properties-first taken at read p ts found = rw found refl
@@ -59,7 +59,7 @@ properties-end (faults.At kind offset) front taken at read here there next total
 properties-end faults.NoMemory front taken at read here there next total same first fails so_far = tt
 
 -- no property stands there
-properties-none_at : (taken : Names) (block strings : List ℕ) (at : ℕ) (mark : Mark) → mark_at block at ≡ mark → mark ≢ marks.Prop → mark ≢ marks.Nop
+pub properties-none_at : (taken : Names) (block strings : List ℕ) (at : ℕ) (mark : Mark) → mark_at block at ≡ mark → mark ≢ marks.Prop → mark ≢ marks.Nop
     → properties taken (tokens block strings at) ≡ Ok ([], tokens block strings at)
 unfolding properties
 properties-none_at taken block strings at marks.Begin is p q = rw (tokens-at block strings at marks.Begin is) refl

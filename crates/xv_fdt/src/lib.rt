@@ -4,6 +4,7 @@
 mod blocks;
 mod fault;
 mod header;
+mod law;
 mod name;
 mod names;
 mod nodes;
@@ -14,6 +15,7 @@ mod tree;
 mod writing;
 
 pub use fault::{FdtFault, FdtKind};
+pub use law::reads_again;
 pub use name::NodeName;
 pub use reading::read;
 pub use tree::{Node, Prop, Tree};
