@@ -1,11 +1,11 @@
 -- What was written so far, and one piece more.
-use Rattle.std.proofs.Common.{◌≡◌, ℕ, suc, ◌+◌, ◌-◌, ◌%◌, ◌^◌, ◌<◌, ◌≤◌, List, [], ◌∷◌, ◌++◌, length, get_or, drop, replicate, sym, ap, ◌∙◌, append_assoc, length-append, arith, add-one}
+use Rattle.std.proofs.Common.{refl, ◌≡◌, ℕ, suc, ◌+◌, ◌-◌, ◌%◌, ◌^◌, ◌<◌, ◌≤◌, List, [], ◌∷◌, ◌++◌, length, get_or, drop, replicate, sym, ap, ◌∙◌, append_assoc, length-append, arith, add-one}
 use Rattle.std.proofs.lemmas.List.{append-nil}
 use Rattle.std.proofs.Math.Seq.{drop-cons}
 use Rattle.std.specs.Int.{byte_at}
 use Rattle.byteorder.specs.Endian.{big_bytes}
 use Rattle.xv_fdt.specs.Tree.{Property, Entry}
-use Rattle.xv_fdt.specs.Written.{big_word, names_bytes, strings_bytes, begin_bytes, property_bytes, properties_bytes, ends, structure_bytes, words_bytes}
+use Rattle.xv_fdt.specs.Written.{big_word, names_bytes, strings_bytes, begin_bytes, property_bytes, properties_bytes, ends, structure_bytes, words_bytes, header_fields}
 
 -- the four lowest bytes are those of the number below 2^32
 pub big_word-fits : (n : ℕ) → big_bytes 4 (n % 2 ^ 32) ≡ big_word n
@@ -65,6 +65,16 @@ words-step out now number rest total put so_far =
 pub words-left : (out total : List ℕ) → out ++ words_bytes [] ≡ total → out ≡ total
 unfolding words_bytes
 words-left out total so_far = sym (append-nil out) ∙ so_far
+
+-- a sum that wraps has the same lowest 32 bits
+big_word-wraps : (m n : ℕ) → m % 2 ^ 32 ≡ n % 2 ^ 32 → big_word m ≡ big_word n
+big_word-wraps m n same = sym (big_word-fits m) ∙ ap (big_bytes 4) same ∙ big_word-fits n
+
+pub header-wraps : (structure strings end total : ℕ) → end ≡ (56 + structure) % 2 ^ 64 → total ≡ (end + strings) % 2 ^ 64
+    → words_bytes (0xd00dfeed ∷ total ∷ 56 ∷ end ∷ 40 ∷ 17 ∷ 16 ∷ 0 ∷ strings ∷ structure ∷ []) ≡ words_bytes (header_fields structure strings)
+unfolding words_bytes
+header-wraps structure strings end total end_is total_is =
+    rw (big_word-wraps total (56 + structure + strings) (omega (arith, end_is, total_is)), big_word-wraps end (56 + structure) (omega (arith, end_is))) refl
 
 -- ---- properties
 

@@ -171,15 +171,16 @@ fn put_words(out: &mut Vec<u8>, numbers: &[usize]) -> Result<(), NoMemory>
     Ok(())
 }
 
+/// Puts the header for blocks of these sizes. A field keeps the lowest 32 bits, so a sum may wrap.
 fn put_header(out: &mut Vec<u8>, structure: usize, strings: usize) -> Result<(), NoMemory>
-    requires { 56 + structure + strings < 2 ^ 32 }
     ensures { OnOk result (out.new.items ≡ out.old.items ++ spec.words_bytes (spec.header_fields structure strings)) }
 {
+    let end = STRUCTURE.wrapping_add(structure);
     let fields = [
         MAGIC,
-        STRUCTURE + structure + strings,
+        end.wrapping_add(strings),
         STRUCTURE,
-        STRUCTURE + structure,
+        end,
         RESERVATIONS,
         VERSION,
         LAST_COMPATIBLE,
@@ -187,15 +188,16 @@ fn put_header(out: &mut Vec<u8>, structure: usize, strings: usize) -> Result<(),
         strings,
         structure,
     ];
-    put_words(out, &fields)
+    put_words(out, &fields)?;
+    Ok(())
 }
 
-/// The file that has this tree: its header (version 17, last compatible version 16), one pair of zeros
-/// as reservations, its structure, and its strings, none of them shared (Devicetree Specification
-/// v0.4, chapter 5). It has at most 1,048,576 bytes.
+/// The file of this tree: its header (version 17, last compatible version 16), one pair of zeros as
+/// reservations, its structure, and its strings, none of them shared (Devicetree Specification v0.4,
+/// chapter 5). `read` gives the tree again if some file has it and this one has at most 1,048,576
+/// bytes.
 #[tactic(auto, unfolding(crate::specs::Written::written))]
 pub fn write(alloc: Global, tree: &Tree) -> Result<Vec<u8>, NoMemory>
-    requires { length (spec.written tree.now) ≤ 1048576 }
     ensures { IfOk result (λ bytes. bytes.items ≡ spec.written tree.now) }
 {
     let mut structure = Vec::new(alloc);
