@@ -1,0 +1,12 @@
+pub mod HeaderLemmas
+pub mod TokenLemmas
+pub mod NameLemmas
+pub mod PropertyLemmas
+pub mod NodeLemmas
+pub mod RootLemmas
+pub mod Examples
+pub mod WritingLemmas
+pub mod PieceLemmas
+pub mod NodesAgain
+pub mod HeaderAgain
+pub mod TreeAgain

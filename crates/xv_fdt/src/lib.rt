@@ -1,0 +1,22 @@
+//! Flattened device trees, read and written (Devicetree Specification v0.4, chapter 5).
+#![tactic(auto)]
+
+mod blocks;
+mod fault;
+mod header;
+mod law;
+mod name;
+mod names;
+mod nodes;
+mod properties;
+mod reading;
+mod token;
+mod tree;
+mod writing;
+
+pub use fault::{FdtFault, FdtKind};
+pub use law::reads_again;
+pub use name::NodeName;
+pub use reading::read;
+pub use tree::{Node, Prop, Tree};
+pub use writing::write;
