@@ -1,0 +1,5 @@
+pub mod Delegation
+pub mod Guest
+pub mod Lines
+pub mod Stage
+pub mod Time
