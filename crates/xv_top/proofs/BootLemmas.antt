@@ -1,5 +1,5 @@
 -- The script that a source has, and the text that is read of it.
-use Rattle.std.proofs.Common.{◌≡◌, ℕ, ◌*◌, ◌<◌, ◌≤◌, false, cond, leb, List, [], ◌∷◌, length, take, map, get_or, Option, Some, None, subst, refl, sym, ap, ◌∙◌, arith}
+use Rattle.std.proofs.Common.{◌≡◌, ℕ, ◌<◌, ◌≤◌, false, cond, leb, List, [], ◌∷◌, length, take, map, get_or, Option, Some, None, subst, refl, sym, ap, ◌∙◌, arith}
 use Rattle.std.proofs.Common.{inl, inr, ◌⊎◌}
 use Rattle.std.proofs.lemmas.Bool.Decides.{nat_tests}
 use Rattle.std.proofs.lemmas.Bool.{cases_lt}
@@ -9,7 +9,6 @@ use Rattle.xv_outside.specs.Outside.{left_after, taken_with, TookFront}
 use Rattle.xv_top.specs.declared.command.Command.{Command}
 use Rattle.xv_top.specs.declared.manager.Manager.{Manager}
 use Rattle.xv_hart.specs.declared.machine.Machine.{Machine}
-use Rattle.xv_hart.specs.Hart.{taken_by}
 use Rattle.xv_hart.specs.Machine.{area_of}
 use Rattle.xv_top.specs.World.{World, first_world}
 use Rattle.xv_top.specs.Manager.{world_of, guests_of}

@@ -18,9 +18,9 @@ use Rattle.xv_top.specs.declared.guest.Guest.{Guest}
 use Rattle.xv_top.specs.declared.manager.Manager.{Manager}
 use Rattle.xv_top.specs.declared.command.Command.TheVariants.{Flat, Poke, Kick, Regs, Run}
 use Rattle.xv_top.specs.Texts.{frames_text, poked_text, kicked_text}
-use Rattle.xv_top.specs.World.{LiveGuest, World, RunSoFar, free, guest_named, with_change, changed_guest, guest_turn, one_turn, pick, run_of}
+use Rattle.xv_top.specs.World.{LiveGuest, World, RunSoFar, free, guest_named, with_change, changed_guest, guest_turn, one_turn, pick}
 use Rattle.xv_top.specs.Answer.{Answer, answer, says, changes, created, flat_answer, refused, poke_guest, poke_at, kick_guest, regs_guest, regs_of_vcpu, run_answer}
-use Rattle.xv_top.specs.Guest.{lone_of, time_of, new_guest, turned, IsPlaced, SameElsewhere}
+use Rattle.xv_top.specs.Guest.{lone_of, new_guest, turned, IsPlaced, SameElsewhere}
 use Rattle.xv_top.specs.Layout.{host_base}
 use Rattle.xv_top.specs.Manager.{live_guest, world_of, guests_of, memory_end, Gives, Keeps}
 use Rattle.xv_top.proofs.GuestLemmas.{same_elsewhere}

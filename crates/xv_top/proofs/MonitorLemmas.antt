@@ -1,9 +1,9 @@
 -- The monitor's answer to a trap is the lone machine's answer to the ask that the hart left.
-use Rattle.std.proofs.Common.{◌≡◌, ℕ, eqb, List, refl, sym, ap, ◌∙◌}
+use Rattle.std.proofs.Common.{◌≡◌, ℕ, eqb, refl, sym, ap, ◌∙◌}
 use Rattle.std.proofs.lemmas.Bool.{cond-true, cond-false}
 use Rattle.xv_isa.specs.Effects as effects
 use Rattle.xv_isa.specs.Length.{next_pc}
-use Rattle.xv_csr.specs.Cause.{environment_call_from_vs, virtual_instruction, instruction_guest_page_fault, load_guest_page_fault}
+use Rattle.xv_csr.specs.Cause.{environment_call_from_vs, virtual_instruction}
 use Rattle.xv_pte.specs.declared.access.Kind3.TheVariants as kinds
 use Rattle.xv_pte.specs.declared.access.Kind3.{Kind3}
 use Rattle.xv_step.specs.Outcome.{Ask, TableEntry, Target, Plain, Call, Wait}
@@ -13,7 +13,7 @@ use Rattle.xv_hart.specs.Step.{trap_of, fault_trap, entry_read}
 use Rattle.xv_lone.specs.declared.vcpu.VcpuView.{VcpuView}
 use Rattle.xv_lone.specs.Plan.{Plan}
 use Rattle.xv_lone.specs.Step.{OnHart, answered, faults, calls, waits}
-use Rattle.xv_top.specs.Monitor.{monitored, ecall_word, kind_of_cause}
+use Rattle.xv_top.specs.Monitor.{monitored, ecall_word}
 
 module _ (plan : Plan) (h t : ℕ) (r : OnHart) (v : VcpuView) where
   fault_same : (user : _) (access : Kind3) (va gpa htinst : ℕ) → monitored plan h t r v (fault_trap user access va gpa htinst) ≡ faults plan h t r v access va

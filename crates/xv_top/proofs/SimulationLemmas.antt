@@ -1,8 +1,7 @@
 -- The hart's step over host bytes, with the monitor's answer to its trap, is the lone step of the guest's machine.
-use Rattle.std.proofs.Common.{◌≡◌, ℕ, List, [], length, Option, Some, None, option_map, subst, refl, sym, ap, ◌∙◌, arith}
+use Rattle.std.proofs.Common.{◌≡◌, ℕ, List, [], Option, Some, None, subst, refl, sym, ap, ◌∙◌}
 use Rattle.xv_step.specs.State.{Held as Reservation, State, trapped}
 use Rattle.xv_step.specs.Outcome.{Ask, TableEntry, Target, Plain, Call, Wait, Outcome, Went, Raised, Left}
-use Rattle.xv_step.specs.Perform.{Inputs}
 use Rattle.xv_step.specs.Step.{step}
 use Rattle.xv_step.proofs.BusLemmas as buses
 use Rattle.xv_step.proofs.BusLemmas.{Nothing}
@@ -17,14 +16,13 @@ use Rattle.xv_hart.specs.Window.{window_bus}
 use Rattle.xv_hart.specs.Step.{HStep, came, exit_of, state_of, inputs_of, held_of, outcome_of, hart_step, trap_of, IsWellFormed}
 use Rattle.xv_lone.specs.declared.vcpu.HartState.{HartState}
 use Rattle.xv_lone.specs.declared.vcpu.HartState.TheVariants.{Started}
-use Rattle.xv_lone.specs.Plan.{flat}
 use Rattle.xv_lone.specs.Cell.{Cell, Memory}
 use Rattle.xv_lone.specs.Step as lone
 use Rattle.xv_lone.specs.Step.{After, OnHart, lone_bus, inputs_at, lines_at, hart_of, goes_on}
 use Rattle.xv_top.specs.declared.guest.Guest.{Guest}
 use Rattle.xv_top.specs.Guest.{plan_of, lone_of, host_end, window_of, cell_at, view_of, on_hart_of, after_of, IsOnHart, ReservedInside, SameElsewhere}
 use Rattle.xv_top.specs.Monitor.{monitored}
-use Rattle.xv_top.proofs.GuestLemmas.{seen_memory, IsGoodFor, StandsIn, joined, good_first}
+use Rattle.xv_top.proofs.GuestLemmas.{seen_memory, IsGoodFor, StandsIn, joined}
 use Rattle.xv_top.proofs.MonitorLemmas.{monitored_same}
 
 -- what a step of the hart needs, once its lines are those of this moment

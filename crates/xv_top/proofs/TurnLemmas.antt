@@ -1,16 +1,15 @@
 -- A turn, lone step by lone step: what is made so far, continued by the rest of the budget, is the whole.
-use Rattle.std.proofs.Common.{◌≡◌, ℕ, ◌+◌, ◌-◌, ◌*◌, ◌<◌, ◌≤◌, Bool, true, false, List, [], ◌∷◌, ◌++◌, length, Some, None, option_map, subst, refl, sym, ap, ◌∙◌, arith}
+use Rattle.std.proofs.Common.{◌≡◌, ℕ, ◌+◌, ◌-◌, ◌<◌, ◌≤◌, Bool, true, false, List, [], ◌∷◌, ◌++◌, length, Some, None, subst, refl, sym, ap, ◌∙◌, arith}
 use Rattle.std.proofs.lemmas.Bool.{cond-false}
 use Rattle.std.proofs.lemmas.List.{length-append}
 use Rattle.xv_hart.specs.declared.regs.Regs.{Regs}
 use Rattle.xv_lone.specs.declared.vcpu.HartState.{HartState}
 use Rattle.xv_lone.specs.declared.vcpu.HartState.TheVariants.{Started, Waiting, Suspended, Stopped}
-use Rattle.xv_lone.specs.declared.vcpu.VcpuView.{VcpuView}
 use Rattle.xv_lone.specs.Plan.{Plan}
 use Rattle.xv_lone.specs.Machine.{Machine}
 use Rattle.xv_lone.specs.Ready.{may_run}
 use Rattle.xv_lone.specs.Step.{On, lone_step, stepped}
-use Rattle.xv_lone.specs.Trail.{IsTrail, NoPiece, OneMore, IsPiece}
+use Rattle.xv_lone.specs.Trail.{IsTrail, NoPiece, OneMore}
 use Rattle.xv_lone.specs.Turn.{InTurn, Core, begin, woken, with_step, one_more, is_started, iterate, whole_turn, turn, visited, steps, ending, ending_in, ends_as}
 use Rattle.xv_lone.proofs.IterateLemmas.{iterate_over, iterate_more, iterate_none}
 use Rattle.xv_top.specs.declared.guest.Guest.{Guest}

@@ -1,4 +1,4 @@
-use Rattle.std.proofs.Common.{◌∙◌, Err, subst, sym, ap}
+use Rattle.std.proofs.Common.{Err, subst, sym, ap}
 use Rattle.xv_outside.specs.Outside.{TookFront}
 use Rattle.xv_top.specs.Manager.{world_of}
 use Rattle.xv_top.proofs.BootLemmas.{transcript_none, answers_are, served_is}

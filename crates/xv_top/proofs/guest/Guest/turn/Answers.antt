@@ -1,4 +1,4 @@
-use Rattle.std.proofs.Common.{◌∙◌, [], subst, refl, sym, ap}
+use Rattle.std.proofs.Common.{◌∙◌, [], subst, ap}
 use Rattle.std.proofs.lemmas.Bool.{and_parts}
 use Rattle.xv_hart.specs.Hart.{regs_of, trail_of}
 use Rattle.xv_lone.specs.Ready.{is_running, has_interrupt, may_run}

@@ -1,4 +1,4 @@
-use Rattle.std.proofs.Common.{[], ◌≡◌, ◌∙◌, length, None, Some, subst, refl, sym, ap, codes}
+use Rattle.std.proofs.Common.{◌≡◌, ◌∙◌, length, None, Some, subst, refl, sym, ap, codes}
 use Rattle.std.proofs.lemmas.Bool.{cond-true, cond-false}
 use Rattle.xv_lone.specs.Plan.{flat}
 use Rattle.xv_lone.specs.Cell.{cell}
@@ -6,7 +6,7 @@ use Rattle.xv_lone.specs.Journal.{Load}
 use Rattle.xv_top.specs.Texts.{poked_text}
 use Rattle.xv_lone.specs.Ready.{is_reset}
 use Rattle.xv_top.specs.Answer.{answer, refused, changes, poke_at}
-use Rattle.xv_top.specs.Guest.{host_end, SameElsewhere}
+use Rattle.xv_top.specs.Guest.{SameElsewhere}
 use Rattle.xv_top.specs.Manager.{live_guest, world_of, memory_end}
 use Rattle.xv_top.specs.declared.command.Command.TheVariants.{Poke}
 use Rattle.xv_top.proofs.ManagerLemmas.{gives_by, poke_is, poke_at_some, change_one, same_guest, keeps_all}

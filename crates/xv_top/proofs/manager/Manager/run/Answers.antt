@@ -2,7 +2,7 @@ use Rattle.std.proofs.Common.{◌∙◌, ◌+◌, ◌<◌, ◌≤◌, refl, sym,
 use Rattle.std.proofs.lemmas.Bool.{cond-true, cond-false, lt-ltb, le-ltb}
 use Rattle.xv_top.specs.Texts.{ran_text}
 use Rattle.xv_top.specs.World.{most_turns, run_of}
-use Rattle.xv_top.specs.Answer.{Answer, answer, refused, ran_answer}
+use Rattle.xv_top.specs.Answer.{Answer, refused, ran_answer}
 use Rattle.xv_top.specs.Manager.{world_of}
 use Rattle.xv_top.proofs.ManagerLemmas.{gives_by, keeps_by, keeps_all, run_is}
 use Rattle.xv_top.proofs.manager.Manager.run.Goals as goal
