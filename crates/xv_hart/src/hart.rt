@@ -103,8 +103,8 @@ impl Hart {
         self.regs = *regs;
     }
 
-    /// One step over host memory: an interrupt, an instruction, or its exception. It counts, and the
-    /// trail grows, also where the step is left to the monitor. The window has to lie in host
+    /// One step over host memory: an interrupt, an instruction, or its exception. It counts, and
+    /// the trail grows, also where the step is left to the monitor. The window has to lie in host
     /// memory, and the trail needs room for one more entry.
     pub fn step<L: Ledger>(&mut self, mem: &mut HostMem, steps: &mut Steps<L>) -> Exit
         requires room { length (trail_of self.old) < room_of self.old }

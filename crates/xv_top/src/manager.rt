@@ -63,7 +63,8 @@ impl Manager {
     fn named(&self, name: &GuestName) -> Option<Guest>
         ensures guest { (bytes : List ℕ) → worlds.guest_named name.now (world_of self.now bytes)
             ≡ option_map (λ g. live_guest g bytes) result }
-        ensures there { IfSome result (λ g. (self.now.guest ≡ Some g) × (bytes_eq g.name name.now ≡ true)) }
+        ensures there { IfSome result (λ g.
+            (self.now.guest ≡ Some g) × (bytes_eq g.name name.now ≡ true)) }
     {
         let guest = self.guest?;
         if guest.name.bytes() == name.bytes() {
@@ -132,7 +133,8 @@ impl Manager {
     /// `guest kick NAME`
     fn kick(&mut self, name: &GuestName, printer: &mut Printer)
         requires { printer.old ≡ [] }
-        ensures answer { (bytes : List ℕ) → Gives (answers.answer (world_of self.old bytes) (Command.Kick name.now))
+        ensures answer { (bytes : List ℕ) →
+            Gives (answers.answer (world_of self.old bytes) (Command.Kick name.now))
             printer.new (world_of self.new bytes) }
         ensures sound { (bytes : List ℕ) → IsSound self.old bytes → IsSound self.new bytes }
     {
@@ -150,7 +152,8 @@ impl Manager {
     /// `guest regs NAME VCPU`
     fn regs(&self, name: &GuestName, vcpu: u64, printer: &mut Printer)
         requires { printer.old ≡ [] }
-        ensures { (bytes : List ℕ) → Gives (answers.answer (world_of self.now bytes) (Command.Regs name.now vcpu))
+        ensures { (bytes : List ℕ) →
+            Gives (answers.answer (world_of self.now bytes) (Command.Regs name.now vcpu))
             printer.new (world_of self.now bytes) }
     {
         let Some(guest) = self.named(name) else {
@@ -165,7 +168,8 @@ impl Manager {
     /// Time goes on by one tick, and a turn is counted.
     fn pass(&mut self)
         requires { self.old.turns < MOST_TURNS }
-        ensures world { (bytes : List ℕ) → world_of self.new bytes ≡ worlds.passed (world_of self.old bytes) }
+        ensures world { (bytes : List ℕ) →
+            world_of self.new bytes ≡ worlds.passed (world_of self.old bytes) }
         ensures guest { self.new.guest ≡ self.old.guest }
         ensures pool { self.new.pool ≡ self.old.pool }
         ensures turns { self.new.turns ≡ self.old.turns + 1 }
@@ -174,7 +178,7 @@ impl Manager {
         self.turns += 1;
     }
 
-    /// One turn of the world: the guest's, where it is ready, or an idle one. True where it is idle.
+    /// One turn of the world: the guest's, where it is ready, or an idle one, and then true.
     fn turn<L: Ledger>(&mut self, machine: &mut Machine, steps: &mut Steps<L>) -> bool
         requires sound { IsSound self.old machine.old.mem }
         requires fit { IsFit machine.old }

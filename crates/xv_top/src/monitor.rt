@@ -1,4 +1,4 @@
-//! The monitor: it answers what the hart leaves, so that hart and monitor together make a lone step.
+//! The monitor: it answers what the hart leaves, so that the two together make a lone step.
 ghost use Rattle.std.specs.Prelude.{◌≡◌, ℕ, ◌+◌, ◌^◌, ◌<◌, ◌≤◌, List, [], length};
 ghost use Rattle.xv_isa.specs.Length.{next_pc};
 ghost use Rattle.xv_hart.specs.Hart.{regs_of, taken_by, trail_of, room_of};
@@ -35,8 +35,8 @@ const A0: usize = 10;
 const A1: usize = 11;
 
 impl Guest {
-    /// One lone step, at guest time `time`, of the VCPU that is on the hart, and its hart state after
-    /// it. The interrupt lines are those of this moment.
+    /// One lone step, at guest time `time`, of the VCPU that is on the hart, and its hart state
+    /// after it. The interrupt lines are those of this moment.
     pub fn lone_step<L: Ledger>(
         &self,
         machine: &mut Machine,
@@ -78,7 +78,8 @@ impl Guest {
     fn answer(&self, regs: &mut Regs, time: u64, trap: &HTrap) -> HartState
         requires formed { IsWellFormed regs.old }
         ensures monitored { (bytes : List ℕ) → after_of self.now regs.new bytes result
-            ≡ monitored (plan_of self.now) 0 time (on_hart_of self.now regs.old bytes states.Started)
+            ≡ monitored (plan_of self.now) 0 time
+            (on_hart_of self.now regs.old bytes states.Started)
             (view_of self.now regs.old states.Started) trap.now }
         ensures window { regs.new.window ≡ regs.old.window }
         ensures time { regs.new.time ≡ regs.old.time }

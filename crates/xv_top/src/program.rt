@@ -74,11 +74,11 @@ pub fn boot<S: Source, K: Sink, F: Files>(
     // Faults come from outside alone, and what was written then is nothing, or a front.
     ensures read_fault { result ≡ 4 → Rose (S.faults source.old) (S.faults source.new) }
     ensures read_fault_sink { result ≡ 4 → sink.new ≡ sink.old }
-    ensures write_fault { result ≡ 5 → IsCutShort MEM_MIB (S.left source.old) (K.taken sink.old) (K.taken sink.new)
-        (K.faults sink.old) (K.faults sink.new) }
+    ensures write_fault { result ≡ 5 → IsCutShort MEM_MIB (S.left source.old)
+        (K.taken sink.old) (K.taken sink.new) (K.faults sink.old) (K.faults sink.new) }
     ensures memory_sink { result ≡ 7 → sink.new ≡ sink.old }
 
-    // Right words and a script in the grammar, and no fault: every line is run, or memory is wanting.
+    // Right words, a script in the grammar, and no fault: every line is run, or memory is wanting.
     ensures complete { AreRight (map (λ word. string_bytes word) words.now) →
         IfSome (S.left source.old) (λ script. commands script ≢ None →
         ¬ (Rose (S.faults source.old) (S.faults source.new)) →
@@ -115,12 +115,13 @@ fn serve<S: Source, K: Sink>(
     requires most { mib ≤ 512 }
     ensures run { OnOk result (IsRun mib (S.left source.old) (S.left source.new)
         (K.taken sink.old) (K.taken sink.new) machine.new) }
-    ensures refused { IsErrOf result Stop.Refused → IsRefused (S.left source.old) (S.left source.new)
-        (K.taken sink.old) (K.taken sink.new) }
-    ensures read_fault { IsErrOf result Stop.ReadFault → Rose (S.faults source.old) (S.faults source.new) }
+    ensures refused { IsErrOf result Stop.Refused → IsRefused (S.left source.old)
+        (S.left source.new) (K.taken sink.old) (K.taken sink.new) }
+    ensures read_fault { IsErrOf result Stop.ReadFault →
+        Rose (S.faults source.old) (S.faults source.new) }
     ensures read_fault_sink { IsErrOf result Stop.ReadFault → sink.new ≡ sink.old }
-    ensures write_fault { IsErrOf result Stop.WriteFault → IsCutShort mib (S.left source.old) (K.taken sink.old) (K.taken sink.new)
-        (K.faults sink.old) (K.faults sink.new) }
+    ensures write_fault { IsErrOf result Stop.WriteFault → IsCutShort mib (S.left source.old)
+        (K.taken sink.old) (K.taken sink.new) (K.faults sink.old) (K.faults sink.new) }
     ensures memory_sink { IsErrOf result Stop.NoMemory → sink.new ≡ sink.old }
     ensures within { ReadsAtMost most_read (S.left source.old) (S.left source.new) }
     ensures source_later { S.faults source.old ≤ S.faults source.new }
@@ -181,8 +182,10 @@ fn run_script<K: Sink>(
 #[tactic(auto, unfolding(crate::specs::Texts::script_text))]
 fn refuse<K: Sink>(sink: &mut K) -> Result<(), Stop>
     ensures err { OnOk result ⊥ }
-    ensures refused { IsErrOf result Stop.Refused → K.taken sink.new ≡ taken_with (K.taken sink.old) script_text }
-    ensures write_fault { IsErrOf result Stop.WriteFault → TookFront (K.taken sink.old) (K.taken sink.new) script_text }
+    ensures refused { IsErrOf result Stop.Refused →
+        K.taken sink.new ≡ taken_with (K.taken sink.old) script_text }
+    ensures write_fault { IsErrOf result Stop.WriteFault →
+        TookFront (K.taken sink.old) (K.taken sink.new) script_text }
     ensures cause { IsErrOf result Stop.WriteFault → Rose (K.faults sink.old) (K.faults sink.new) }
     ensures others { (IsErrOf result Stop.NoMemory → ⊥) × (IsErrOf result Stop.ReadFault → ⊥) }
     ensures later { K.faults sink.old ≤ K.faults sink.new }

@@ -26,7 +26,8 @@ pub fn read_script<S: Source>(alloc: Global, source: &mut S) -> Result<Vec<u8>, 
     ensures text { IfOk result (λ text. IsTextOf (S.left source.old) text.items) }
     ensures left { OnOk result (S.left source.new ≡ left_after (S.left source.old) most_read) }
     ensures within { ReadsAtMost most_read (S.left source.old) (S.left source.new) }
-    ensures failed { IsErrOf result ReadFault.Failed → Rose (S.faults source.old) (S.faults source.new) }
+    ensures failed { IsErrOf result ReadFault.Failed →
+        Rose (S.faults source.old) (S.faults source.new) }
     ensures later { S.faults source.old ≤ S.faults source.new }
 {
     let mut text = Vec::new(alloc);

@@ -64,7 +64,8 @@ pub fn parse(alloc: Global, bytes: &[u8]) -> Result<Vec<Command>, ScriptFault>
 /// The commands of the lines of a script, with what stands behind the end of the last.
 #[tactic(auto, unfolding(crate::specs::Script::commands_of), using(crate::proofs::ScriptLemmas::commands_of_lines))]
 fn commands_of(alloc: Global, lines: &[&[u8]]) -> Result<Vec<Command>, ScriptFault>
-    ensures ok { IfOk result (λ all. commands_of (map (λ line. line.now) lines.now) ≡ Some all.items) }
+    ensures ok { IfOk result (λ all.
+        commands_of (map (λ line. line.now) lines.now) ≡ Some all.items) }
     ensures unbuilt { IsErrOf result ScriptFault.Unbuilt
         → commands_of (map (λ line. line.now) lines.now) ≡ None }
     ensures range { IfOk result (λ all. All IsInRange all.items) }

@@ -59,13 +59,17 @@ const REFUSED: [&[u8]; 9] = [
     b"guest flat a 4\nguest poke a 0x80000000 930270001383f2ffb38362006f000000\nguest kick b\nrun 1\nguest regs a 0\n",
 ];
 
-/// The program's status, and the bytes that the sink took.
-fn run(
-    alloc: Global,
-    words: &[&str],
-    script: &[u8],
-    faults: Faults,
-) -> Result<(u8, Vec<u8>), Fail> {
+/// The program's status, the bytes that the sink took, and of the machine the frames of its memory
+/// and the steps of its hart.
+#[derive(Drop)]
+struct Ran {
+    status: u8,
+    taken: Vec<u8>,
+    frames: u32,
+    steps: u64,
+}
+
+fn run(alloc: Global, words: &[&str], script: &[u8], faults: Faults) -> Result<Ran, Fail> {
     let mut strings = Vec::new(alloc);
     for word in words {
         strings.push(String::from_str(alloc, word)?)?;
@@ -84,7 +88,12 @@ fn run(
         &mut EmptyFiles,
         &mut machine,
     );
-    Ok((status, sink.taken().to_vec(alloc)?))
+    Ok(Ran {
+        status,
+        taken: sink.taken().to_vec(alloc)?,
+        frames: machine.mem.frames(),
+        steps: machine.hart.steps_taken(),
+    })
 }
 
 fn joined(alloc: Global, parts: &[&[u8]]) -> Result<Vec<u8>, Fail> {
@@ -98,10 +107,15 @@ fn joined(alloc: Global, parts: &[&[u8]]) -> Result<Vec<u8>, Fail> {
 #[test]
 fn scripts_and_their_transcripts(rt: HostRuntime) -> Result<(), Fail> {
     for row in &ROWS {
-        let (status, taken) = run(rt.alloc(), &["boot"], row.script, NO_FAULTS)?;
-        assert_eq!(rt; status, 0, "{}", row.message);
+        let ran = run(rt.alloc(), &["boot"], row.script, NO_FAULTS)?;
+        assert_eq!(rt; ran.status, 0, "{}", row.message);
         let transcript = joined(rt.alloc(), row.transcript)?;
-        assert_eq!(rt; taken.as_slice(), transcript.as_slice(), "{}", row.message);
+        assert_eq!(rt;
+            ran.taken.as_slice(),
+            transcript.as_slice(),
+            "{}",
+            row.message
+        );
     }
     Ok(())
 }
@@ -118,14 +132,16 @@ fn refusals_of_words_and_scripts(rt: HostRuntime) -> Result<(), Fail> {
         &["boot", "boot"],
     ];
     for words in rows {
-        let (status, taken) = run(rt.alloc(), words, FIRST, NO_FAULTS)?;
-        assert_eq!(rt; status, 2, "{words:?}");
-        assert_eq!(rt; taken.len(), 0, "{words:?}");
+        let ran = run(rt.alloc(), words, FIRST, NO_FAULTS)?;
+        assert_eq!(rt; ran.status, 2, "{words:?}");
+        assert_eq!(rt; ran.taken.len(), 0, "{words:?}");
+        assert_eq!(rt; ran.frames, 0, "{words:?}");
     }
     for script in REFUSED {
-        let (status, taken) = run(rt.alloc(), &["boot"], script, NO_FAULTS)?;
-        assert_eq!(rt; status, 3, "{script:?}");
-        assert_eq!(rt; taken.as_slice(), UNBUILT, "{script:?}");
+        let ran = run(rt.alloc(), &["boot"], script, NO_FAULTS)?;
+        assert_eq!(rt; ran.status, 3, "{script:?}");
+        assert_eq!(rt; ran.taken.as_slice(), UNBUILT, "{script:?}");
+        assert_eq!(rt; ran.steps, 0, "{script:?}");
     }
     Ok(())
 }
@@ -138,39 +154,41 @@ fn a_script_that_is_too_long(rt: HostRuntime) -> Result<(), Fail> {
         script.extend_from_slice(b"00")?;
     }
     script.extend_from_slice(b"\nguest kick a\nrun 1\nguest regs a 0\n")?;
-    let (status, taken) = run(rt.alloc(), &["boot"], &script, NO_FAULTS)?;
-    assert_eq!(rt; status, 3);
-    assert_eq!(rt; taken.as_slice(), UNBUILT);
+    let ran = run(rt.alloc(), &["boot"], &script, NO_FAULTS)?;
+    assert_eq!(rt; ran.status, 3);
+    assert_eq!(rt; ran.taken.as_slice(), UNBUILT);
     Ok(())
 }
 
 #[test]
 fn faults_of_source_and_sink(rt: HostRuntime) -> Result<(), Fail> {
-    // The status, and how many answers were taken.
-    let rows: [(Faults, &[u8], u8, usize); 11] = [
-        (reads_fail(&[0]), FIRST, 4, 0),
-        (reads_fail(&[1]), FIRST, 4, 0),
-        (puts_fail(&[0]), FIRST, 5, 0),
-        (puts_fail(&[1]), FIRST, 5, 1),
-        (puts_fail(&[2]), FIRST, 5, 2),
-        (puts_fail(&[3]), FIRST, 5, 3),
-        (puts_fail(&[4]), FIRST, 5, 4),
-        (room_of(20), FIRST, 5, 0),
-        (room_of(50), FIRST, 5, 2),
-        (puts_fail(&[0]), b"", 5, 0),
-        (room_of(16), b"", 5, 0),
+    // The status, how many answers were taken, and how many steps the hart made.
+    let rows: [(Faults, &[u8], u8, usize, u64); 11] = [
+        (reads_fail(&[0]), FIRST, 4, 0, 0),
+        (reads_fail(&[1]), FIRST, 4, 0, 0),
+        (puts_fail(&[0]), FIRST, 5, 0, 0),
+        (puts_fail(&[1]), FIRST, 5, 1, 0),
+        (puts_fail(&[2]), FIRST, 5, 2, 0),
+        (puts_fail(&[3]), FIRST, 5, 3, 1000),
+        (puts_fail(&[4]), FIRST, 5, 4, 1000),
+        (room_of(20), FIRST, 5, 0, 0),
+        (room_of(50), FIRST, 5, 2, 0),
+        (puts_fail(&[0]), b"", 5, 0, 0),
+        (room_of(16), b"", 5, 0, 0),
     ];
-    for (faults, script, status, answers) in rows {
+    for (faults, script, status, answers, steps) in rows {
         let message = (faults.reads, faults.puts, faults.room);
-        let got = run(rt.alloc(), &["boot"], script, faults)?;
-        assert_eq!(rt; got.0, status, "{message:?}");
+        let ran = run(rt.alloc(), &["boot"], script, faults)?;
+        assert_eq!(rt; ran.status, status, "{message:?}");
         let front = FIRST_ANSWERS
             .iter()
             .take(answers)
             .copied()
             .collect::<Vec<&[u8]>>(rt.alloc())?;
         let front = joined(rt.alloc(), &front)?;
-        assert_eq!(rt; got.1.as_slice(), front.as_slice(), "{message:?}");
+        assert_eq!(rt; ran.taken.as_slice(), front.as_slice(), "{message:?}");
+        assert_eq!(rt; ran.frames, 16_384, "{message:?}");
+        assert_eq!(rt; ran.steps, steps, "{message:?}");
     }
     Ok(())
 }
