@@ -1,7 +1,7 @@
 //! The whole table against a scan of its rows, and words that an assembler made.
 
 use crate::rows::row_at;
-use crate::{Insn, Op, decode, encode, op_of};
+use crate::{Op, decode, encode, op_of};
 use std::test::Fail;
 
 // The first row that a word matches, by trying each.
@@ -87,19 +87,10 @@ fn assembled_words(rt: HostRuntime) -> Result<(), Fail> {
     for worked in &WORKED {
         let Worked(word, op, rd, rs1, rs2, imm, extra) = *worked;
         let insn = decode(word).ok_or("a row")?;
-        assert_eq!(rt; op_of(&insn), op);
-        assert_eq!(rt;
-            insn,
-            Insn {
-                row: insn.row,
-                rd,
-                rs1,
-                rs2,
-                imm,
-                extra
-            }
-        );
-        assert_eq!(rt; encode(&insn), word);
+        assert_eq!(rt; op_of(&insn), op, "{word}");
+        assert_eq!(rt; (insn.rd, insn.rs1, insn.rs2), (rd, rs1, rs2), "{word}");
+        assert_eq!(rt; (insn.imm, insn.extra), (imm, extra), "{word}");
+        assert_eq!(rt; encode(&insn), word, "{word}");
     }
     assert_eq!(rt; decode(0), None);
     assert_eq!(rt; decode(0xffff_ffff), None);

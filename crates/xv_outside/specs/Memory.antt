@@ -20,8 +20,8 @@ pub record SinkState : Type 0 where
   pub calls : CallCount
 
 -- a count that rises, and stands at the greatest value of 64 bits
-abbrev pub raised : ℕ → ℕ
-raised n = min (n + 1) (2 ^ 64 - 1)
+abbrev pub next_count : ℕ → ℕ
+next_count n = min (n + 1) (2 ^ 64 - 1)
 
 -- no call was made yet
 abbrev pub no_calls : List ℕ → CallCount
@@ -32,6 +32,6 @@ abbrev pub fails_next : CallCount → Bool
 fails_next calls = list_any (λ number. number == calls.made) calls.failing
 
 -- one more call, which failed or didn't
-abbrev pub called : CallCount → Bool → CallCount
-called calls failed =
-    record calls { made = raised calls.made; faults = if failed then raised calls.faults else calls.faults }
+abbrev pub calls_after : CallCount → Bool → CallCount
+calls_after calls failed =
+    record calls { made = next_count calls.made; faults = if failed then next_count calls.faults else calls.faults }

@@ -1,11 +1,11 @@
 //! Thin adapters over the process's own streams, and over any reader and writer.
 ghost use Rattle.std.specs.Prelude.{◌≡◌, ◌<◌, ◌≤◌, ℕ, None, length, IfOk, OnOk, OnErr};
-ghost use Rattle.std.specs.Io.KnownBytes.{Appends, ReadConsumes};
+ghost use Rattle.std.specs.Io.KnownBytes.{Appends, ReadConsumes, WriteAppends};
 ghost use Rattle.xv_base.specs.Fault.{Rose};
-ghost use Rattle.xv_outside.specs.Stream.{StreamState};
+ghost use Rattle.xv_outside.specs.Memory.{next_count};
+ghost use Rattle.xv_outside.specs.Stream.{StreamState, AppendsFront};
 
 use crate::outside::{Failed, Sink, Source};
-use std::io;
 use std::io::{ErrorKind, Read, Stdin, Stdout, Write};
 use std::marker::Model;
 
@@ -61,6 +61,7 @@ impl<R: Read> Source for ReaderSource<R> {
         ensures within { IfOk result (λ n. n ≤ length buf.new) }
         ensures quiet { OnOk result (self.new.faults ≡ self.old.faults) }
         ensures cause { OnErr result (Rose self.old.faults self.new.faults) }
+        ensures once { OnErr result (self.new.faults ≡ next_count self.old.faults) }
         ensures later { self.old.faults ≤ self.new.faults }
         ensures bytes { ReadConsumes self.old.known self.new.known result buf.new }
     {
@@ -97,12 +98,39 @@ impl<W: Write> WriterSink<W> {
     }
 }
 
-// A write that takes nothing of what is left is an error.
-fn write_whole<W: Write>(writer: &mut W, piece: &[u8]) -> io::Result<()>
-    ensures { OnOk result (Appends (W.contents writer.old) (W.contents writer.new) piece.now) }
+// One write that goes through. A write that a signal cut off is made again.
+#[tactic(auto, using(crate::proofs::Tries::keeps_same, crate::proofs::Tries::keeps_more, crate::proofs::Tries::keeps_appends))]
+fn write_some<W: Write>(writer: &mut W, piece: &[u8]) -> Result<usize, Failed>
+    ensures within { IfOk result (λ n. n ≤ length piece.now) }
+    ensures bytes { WriteAppends (W.contents writer.old) (W.contents writer.new) result piece.now }
 {
-    writer.write_all(piece)?;
-    writer.flush()
+    for _ in 0..u64::MAX {
+        match writer.write(piece) {
+            Ok(n) => return Ok(n),
+            Err(error) if error.kind() == ErrorKind::Interrupted => {}
+            Err(_) => break,
+        }
+    }
+    Err(Failed)
+}
+
+// Writes the piece to its end. A write that takes nothing of what is left is a failure.
+fn write_whole<W: Write>(writer: &mut W, piece: &[u8]) -> Result<(), Failed>
+    ensures whole { OnOk result (Appends (W.contents writer.old) (W.contents writer.new) piece.now) }
+    ensures front { OnErr result (AppendsFront (W.contents writer.old) (W.contents writer.new) piece.now) }
+{
+    let mut at = 0;
+    while at < piece.len() {
+        match write_some(writer, &piece[at..]) {
+            Ok(0) => return Err(Failed),
+            Ok(n) => at += n,
+            Err(Failed) => return Err(Failed),
+        }
+    }
+    match writer.flush() {
+        Ok(()) => Ok(()),
+        Err(_) => Err(Failed),
+    }
 }
 
 impl<W: Write> Sink for WriterSink<W> {
@@ -114,13 +142,15 @@ impl<W: Write> Sink for WriterSink<W> {
     fn put(&mut self, piece: &[u8]) -> Result<(), Failed>
         ensures quiet { OnOk result (self.new.faults ≡ self.old.faults) }
         ensures cause { OnErr result (Rose self.old.faults self.new.faults) }
+        ensures once { OnErr result (self.new.faults ≡ next_count self.old.faults) }
         ensures later { self.old.faults ≤ self.new.faults }
         ensures bytes { OnOk result (Appends self.old.known self.new.known piece.now) }
+        ensures front { OnErr result (AppendsFront self.old.known self.new.known piece.now) }
     {
-        let Ok(()) = write_whole(&mut self.writer, piece) else {
+        let result = write_whole(&mut self.writer, piece);
+        if let Err(Failed) = result {
             self.faults = self.faults.saturating_add(1);
-            return Err(Failed);
-        };
-        Ok(())
+        }
+        result
     }
 }

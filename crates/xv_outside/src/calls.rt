@@ -1,7 +1,7 @@
 //! The calls of a form in memory: which of them fail, how many were made, and how many failed.
 ghost use Rattle.std.specs.Prelude.{◌≡◌, ◌≤◌};
 ghost use Rattle.std.specs.Result.{is_err};
-ghost use Rattle.xv_outside.specs.Memory.{CallCount, raised, no_calls, fails_next, called};
+ghost use Rattle.xv_outside.specs.Memory.{CallCount, next_count, no_calls, fails_next, calls_after};
 
 use crate::outside::Failed;
 use std::marker::Model;
@@ -33,7 +33,7 @@ impl Calls {
     /// Counts the next call, which fails exactly where its number is one of those that fail.
     pub fn next(&mut self) -> Result<(), Failed>
         ensures fails { is_err result ≡ fails_next self.old }
-        ensures counted { self.new ≡ called self.old (is_err result) }
+        ensures counted { self.new ≡ calls_after self.old (is_err result) }
         ensures later { self.old.faults ≤ self.new.faults }
     {
         let fails = self.failing.contains(&self.made);
@@ -47,7 +47,7 @@ impl Calls {
 
     /// Counts one failure.
     pub fn fault(&mut self)
-        ensures counted { self.new ≡ record self.old { faults = raised self.old.faults } }
+        ensures counted { self.new ≡ record self.old { faults = next_count self.old.faults } }
         ensures later { self.old.faults ≤ self.new.faults }
     {
         self.faults = self.faults.saturating_add(1);

@@ -3,7 +3,7 @@ ghost use Rattle.std.specs.Prelude.{◌≡◌, ◌↔◌, ◌⊎◌, ◌+◌, �
 ghost use Rattle.std.specs.Result.{is_err};
 ghost use Rattle.xv_base.specs.Fault.{Rose};
 ghost use Rattle.xv_outside.specs.Outside.{GivesFront, EndsWithTheBytes, left_after, taken_with, TookFront};
-ghost use Rattle.xv_outside.specs.Memory.{SourceState, SinkState, no_calls, fails_next, called};
+ghost use Rattle.xv_outside.specs.Memory.{SourceState, SinkState, no_calls, fails_next, calls_after};
 
 use crate::calls::Calls;
 use crate::outside::{Failed, FetchFault, Fetched, Files, Sink, Source};
@@ -65,7 +65,7 @@ impl Source for MemSource {
         ensures full { IfOk result (λ n. n ≡ min (length buf.old) (length self.old.left)) }
         ensures rest { IfOk result (λ n. drop n buf.new ≡ drop n buf.old) }
         ensures fails { is_err result ≡ fails_next self.old.calls }
-        ensures calls { self.new.calls ≡ called self.old.calls (is_err result) }
+        ensures calls { self.new.calls ≡ calls_after self.old.calls (is_err result) }
     {
         self.calls.next()?;
         let left = &self.bytes[self.next..];
@@ -133,7 +133,7 @@ impl Sink for MemSink {
         ensures fails { IsErr result ↔ (IsTrue (fails_next self.old.calls)
             ⊎ (self.old.room < length self.old.taken + length piece.now)) }
         ensures room { self.new.room ≡ self.old.room }
-        ensures calls { self.new.calls ≡ called self.old.calls (is_err result) }
+        ensures calls { self.new.calls ≡ calls_after self.old.calls (is_err result) }
     {
         self.calls.next()?;
         if self.room - self.bytes.len() < piece.len() {

@@ -10,7 +10,7 @@ fn numbers(alloc: Global, failing: &[u64]) -> Result<Vec<u64>, Fail> {
     Ok(failing.to_vec(alloc)?)
 }
 
-// A reader that is cut off by a signal, then gives two bytes, then fails, then ends.
+// A reader that is cut off by a signal, then gives two bytes, then fails, then ends, then fails.
 #[derive(Drop)]
 struct FakeReader {
     calls: u8,
@@ -26,24 +26,36 @@ impl Read for FakeReader {
                 buf[..n].copy_from_slice(&b"ab"[..n]);
                 Ok(n)
             }
-            3 => Err(Error::from(ErrorKind::PermissionDenied)),
-            _ => Ok(0),
+            4 => Ok(0),
+            _ => Err(Error::from(ErrorKind::PermissionDenied)),
         }
     }
 }
 
-// A writer that takes two bytes a call, up to its room, and keeps how many it took.
+// A writer whose first call is cut off by a signal, and that then takes two bytes a call, up to its
+// room.
 #[derive(Drop)]
 struct FakeWriter {
+    taken: Vec<u8>,
+    calls: u8,
     room: usize,
     flushes: bool,
 }
 
 impl Write for FakeWriter {
     fn write(&mut self, buf: &[u8]) -> io::Result<usize> {
+        self.calls = self.calls.saturating_add(1);
+        if self.calls == 1 {
+            return Err(Error::from(ErrorKind::Interrupted));
+        }
         let n = buf.len().min(2).min(self.room);
-        self.room -= n;
-        Ok(n)
+        match self.taken.extend_from_slice(&buf[..n]) {
+            Ok(()) => {
+                self.room -= n;
+                Ok(n)
+            }
+            Err(_) => Err(Error::from(ErrorKind::OutOfMemory)),
+        }
     }
 
     fn flush(&mut self) -> io::Result<()> {
@@ -55,17 +67,21 @@ impl Write for FakeWriter {
     }
 }
 
-// Each answer of a source until its fourth call, in buffers of three bytes: the bytes, or 255.
-fn four_reads<S: Source>(source: &mut S) -> [u8; 4] {
+// Each answer of a source until its fourth call, in buffers of three bytes: their number, or 255.
+// The bytes that were given are appended.
+fn four_reads<S: Source>(source: &mut S, given: &mut Vec<u8>) -> Result<[u8; 4], Fail> {
     let mut answers = [0; 4];
     for answer in answers.iter_mut() {
         let mut buf = [0; 3];
         *answer = match source.read(&mut buf) {
-            Ok(n) => n as u8,
+            Ok(n) => {
+                given.extend_from_slice(&buf[..n])?;
+                n as u8
+            }
             Err(Failed) => 255,
         };
     }
-    answers
+    Ok(answers)
 }
 
 fn puts<K: Sink>(sink: &mut K, pieces: &[&[u8]; 3]) -> [bool; 3] {
@@ -88,10 +104,14 @@ fn sources(rt: HostRuntime) -> Result<(), Fail> {
         let bytes = b"hello".to_vec(rt.alloc())?;
         let mut source = MemSource::new(bytes, numbers(rt.alloc(), failing)?);
         assert_eq!(rt; source.left(), b"hello".as_slice());
-        assert_eq!(rt; four_reads(&mut source), answers);
+        let mut given = Vec::new(rt.alloc());
+        assert_eq!(rt; four_reads(&mut source, &mut given)?, answers);
+        assert_eq!(rt; given.as_slice(), b"hello".as_slice());
     }
     let mut source = ReaderSource::new(FakeReader { calls: 0 });
-    assert_eq!(rt; four_reads(&mut source), [2, 255, 0, 0]);
+    let mut given = Vec::new(rt.alloc());
+    assert_eq!(rt; four_reads(&mut source, &mut given)?, [2, 255, 0, 255]);
+    assert_eq!(rt; given.as_slice(), b"ab".as_slice());
     Ok(())
 }
 
@@ -111,13 +131,21 @@ fn sinks(rt: HostRuntime) -> Result<(), Fail> {
         assert_eq!(rt; puts(&mut sink, &pieces), answers);
         assert_eq!(rt; sink.taken(), taken);
     }
-    for (room, flushes, answers) in [
-        (8, true, [true, true, true]),
-        (6, true, [true, false, false]),
-        (8, false, [false, false, false]),
-    ] {
-        let mut sink = WriterSink::new(FakeWriter { room, flushes });
+    let rows: [(usize, bool, [bool; 3], &[u8]); 3] = [
+        (8, true, [true, true, true], b"abcdefgh"),
+        (6, true, [true, false, false], b"abcdef"),
+        (8, false, [false, false, false], b"abcdefgh"),
+    ];
+    for (room, flushes, answers, taken) in rows {
+        let mut writer = FakeWriter {
+            taken: Vec::new(rt.alloc()),
+            calls: 0,
+            room,
+            flushes,
+        };
+        let mut sink = WriterSink::new(&mut writer);
         assert_eq!(rt; puts(&mut sink, &pieces), answers);
+        assert_eq!(rt; writer.taken.as_slice(), taken);
     }
     Ok(())
 }
