@@ -1,7 +1,6 @@
--- Worked rows of the definitions, computed by the checker: short programs over 64 bytes of memory, in which
--- an exception is taken, and an ask is answered as a machine without devices and without calls would.
-use Rattle.std.proofs.Common.{◌≡◌, ℕ, zero, suc, ◌+◌, ◌-◌, ◌*◌, ◌/◌, ◌%◌, ◌^◌, ◌==◌, ◌++◌, Bool, true, false, ◌&&◌, if◌then◌else◌, List, [], ◌∷◌, map, length, Some, None, refl, nat_le}
-use Rattle.std.specs.Prelude.{Option, ℤ, pos, negsuc, option_map, replicate, slice_index, slice_set}
+-- Worked rows of the definitions, computed by the checker: short programs over 64 bytes of memory.
+use Rattle.std.proofs.Common.{◌≡◌, ℕ, ◌+◌, ◌-◌, ◌*◌, ◌^◌, true, List, [], ◌∷◌, map, Some, refl}
+use Rattle.std.specs.Prelude.{Option, ℤ, pos, negsuc, option_map}
 use Rattle.xv_isa.specs.declared.instruction.Insn.{Insn}
 use Rattle.xv_isa.specs.declared.rows.Op.{Op}
 use Rattle.xv_isa.specs.declared.rows.Op.TheVariants.{Add, Addi, Auipc, Csrrw, Jal, Ld, LrD, Lui, Sb, Sd, Slli, Sw}
@@ -14,125 +13,11 @@ use Rattle.xv_csr.specs.Pending.{chosen_interrupt, pending, sip_of}
 use Rattle.xv_csr.specs.Table.{csr_read, csr_written, register_of}
 use Rattle.xv_csr.specs.Trap.{trap_csrs, handler, return_csrs, returns_to_user}
 use Rattle.xv_csr.specs.declared.SCsrs.{SCsrs}
-use Rattle.xv_step.specs.Bus.{Bus}
-use Rattle.xv_step.specs.State.{State, set, trapped}
-use Rattle.xv_step.specs.Outcome.{Ask, TableEntry, Target, Plain, Call, Wait, Outcome, Went, Raised, Left, access_kind, address_of, access_fault}
-use Rattle.xv_step.specs.Perform.{Inputs}
+use Rattle.xv_step.specs.Outcome.{Wait, Left}
 use Rattle.xv_step.specs.Step.{step}
 use Rattle.xv_pte.specs.Entry.{kind_of}
 use Rattle.xv_pte.specs.Sv39 as sv39
-
--- ---- 64 bytes of memory from 0x80000000 on, of which the last 8 can't be written
-
-base : ℕ
-base = 0x8000_0000
-
-bytes_of : ℕ → ℕ → List ℕ
-bytes_of zero n = []
-bytes_of (suc width) n = n % 256 ∷ bytes_of width (n / 256)
-
-number_at : List ℕ → ℕ → ℕ → ℕ
-number_at memory zero at = 0
-number_at memory (suc width) at = slice_index memory at + 256 * number_at memory width (at + 1)
-
-stored_at : List ℕ → ℕ → List ℕ → List ℕ
-stored_at memory at [] = memory
-stored_at memory at (b ∷ bs) = stored_at (slice_set memory at b) (at + 1) bs
-
-bus : Bus (List ℕ) ℕ
-bus = record {
-  find = λ width gpa. if nat_le base gpa && nat_le (gpa + width) (base + 64) then Some (record { place = gpa - base; writable = nat_le (gpa + width) (base + 56) }) else None;
-  get = λ memory width at. number_at memory width at;
-  put = λ memory width at value. stored_at memory at (bytes_of width value);
-  same = λ a b. a == b;
-}
-
-inputs : Inputs
-inputs = record { lines = record { timer = false; external = false }; time = 7 }
-
--- ---- a machine by itself
-
-answer : State (List ℕ) ℕ → Ask → State (List ℕ) ℕ
-answer s (TableEntry access va gpa) = trapped (access_fault access) va s
-answer s (Target access va gpa) = trapped (access_fault access) va s
-answer s (Plain access gpa next) = trapped (access_fault (access_kind access)) (address_of access) s
-answer s (Call next) = record (set 10 (2 ^ 64 - 2) (set 11 0 s)) { pc = next }
-answer s (Wait next) = record s { pc = next }
-
-answered : State (List ℕ) ℕ → Outcome (List ℕ) ℕ → State (List ℕ) ℕ
-answered s (Went t) = t
-answered s (Raised cause tval) = trapped cause tval s
-answered s (Left ask) = answer s ask
-
-steps : ℕ → State (List ℕ) ℕ → State (List ℕ) ℕ
-steps zero s = s
-steps (suc n) s = steps n (answered s (step bus inputs s))
-
-memory_of : List ℕ → List ℕ
-memory_of [] = []
-memory_of (word ∷ words) = bytes_of 4 word ++ memory_of words
-
--- a hart in S at the first of these words, with zeros behind them
-start : List ℕ → State (List ℕ) ℕ
-start words = record {
-  x = replicate 32 0;
-  pc = base;
-  user = false;
-  csrs = reset_csrs;
-  held = None;
-  memory = memory_of words ++ replicate (64 - 4 * length words) 0;
-}
-
-in_user : State (List ℕ) ℕ → State (List ℕ) ℕ
-in_user s = record s { user = true }
-
-with_csrs : SCsrs → State (List ℕ) ℕ → State (List ℕ) ℕ
-with_csrs csrs s = record s { csrs = csrs }
-
--- Sv39 with the root table at the base: entry 2 maps 1 GiB at the base onto itself, entry 3 maps it as these
--- flags say, and the entries from 8 on have no memory
-mapped : ℕ → ℕ → List ℕ → State (List ℕ) ℕ
-mapped status flags code =
-    with_csrs (record reset_csrs { satp = 8 * 2 ^ 60 + 0x80000; sstatus = reset_csrs.sstatus + status })
-    (start (code ++ 0x2000_00cf ∷ 0 ∷ (0x2000_0000 + flags) ∷ 0 ∷ []))
-
--- ---- what is looked at
-
--- scause, sepc, stval and the pc
-trap_of : State (List ℕ) ℕ → List ℕ
-trap_of s = s.csrs.scause ∷ s.csrs.sepc ∷ s.csrs.stval ∷ s.pc ∷ []
-
-registers : List ℕ → State (List ℕ) ℕ → List ℕ
-registers [] s = []
-registers (k ∷ ks) s = slice_index s.x k ∷ registers ks s
-
-mode_of : Bool → ℕ
-mode_of true = 0
-mode_of false = 1
-
--- the pc, the mode (U 0, S 1) and sstatus without UXL
-mode : State (List ℕ) ℕ → List ℕ
-mode s = s.pc ∷ mode_of s.user ∷ s.csrs.sstatus % 2 ^ 32 ∷ []
-
--- the 8 bytes at offset 32
-word : State (List ℕ) ℕ → List ℕ
-word s = number_at s.memory 8 32 ∷ []
-
--- ---- the rows: what is looked at, and what it is
-
--- so many steps from the first of these words
-ran : ℕ → List ℕ → State (List ℕ) ℕ
-ran n words = steps n (start words)
-
-ran_in_user : List ℕ → State (List ℕ) ℕ
-ran_in_user words = steps 1 (in_user (start words))
-
--- x5 is the address of offset 32
-at_x5 : List ℕ → List ℕ
-at_x5 words = 0x00000297 ∷ 0x02028293 ∷ words
-
-ones : ℕ
-ones = 2 ^ 64 - 1
+use Rattle.xv_step.proofs.ExampleMachine.{base, bytes_of, number_at, stored_at, bus, inputs, answer, answered, steps, memory_of, start, in_user, with_csrs, mapped, trap_of, registers, mode_of, mode, word, ran, ran_in_user, at_x5, ones}
 
 table : List (List ℕ × List ℕ)
 table =

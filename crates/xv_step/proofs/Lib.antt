@@ -1,4 +1,6 @@
 pub mod WidthLemmas
 pub mod BusLemmas
 pub mod NextLemmas
+pub mod ExampleMachine
 pub mod Examples
+pub mod ExampleRows
