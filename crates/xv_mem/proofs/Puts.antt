@@ -1,4 +1,5 @@
--- What a piece that is put into a list of bytes changes, what it leaves, and what a range shows of it.
+-- A library for the crates above: what a piece that is put into a list of bytes changes, what it leaves, and
+-- what a range shows of it. It is whole in itself, and not all of it is cited today.
 use Rattle.std.proofs.Common.{◌≡◌, ℕ, ◌+◌, ◌*◌, ◌/◌, ◌-◌, ◌<◌, ◌≤◌, ◌≢◌, List, ◌++◌, length, take, drop, get_or, replicate, refl, sym, ap, ◌∙◌, subst, arith, inl, inr, ◌⊎◌}
 use Rattle.std.proofs.lemmas.List.{append_assoc, length-append, length-take, length-take-le, length-drop, length-replicate, get_or-take, get_or-drop, get_or-replicate, get_or_append_left, get_or-append_right, take-append-le, drop_at, take_at, drop-drop, take-take, ext_get_or, take_all}
 use Rattle.std.proofs.lemmas.Bool.{cases_lt}

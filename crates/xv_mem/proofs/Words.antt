@@ -1,4 +1,5 @@
--- What a word of a list of bytes is after a put, in a range, among zeros, and as a number.
+-- A library for the crates above: what a word of a list of bytes is after a put, in a range, among zeros, and
+-- as a number. It is whole in itself, and not all of it is cited today.
 use Rattle.std.proofs.Common.{◌≡◌, ℕ, zero, suc, ◌+◌, ◌^◌, ◌-◌, ◌<◌, ◌≤◌, List, ◌++◌, length, take, drop, get_or, replicate, refl, sym, ap, ◌∙◌, subst, arith, inl, inr, ◌⊎◌}
 use Rattle.std.proofs.lemmas.List.{append_assoc, length-take-le, get_or-drop, get_or-replicate, get_or_past, drop_at, length-replicate}
 use Rattle.std.proofs.lemmas.Bool.{cases_lt}

@@ -1,6 +1,7 @@
 //! How many frames of host memory a guest takes.
 ghost use Rattle.std.specs.Prelude.{◌≡◌, ◌+◌, ◌-◌, ◌*◌, ◌/◌, ◌^◌, ◌<◌, ◌≤◌};
 ghost use Rattle.xv_lone.specs.Plan.{flat, need, blocks_touched};
+ghost use Rattle.xv_top.specs.Script.{most_pages};
 
 use crate::guest::FLAT_BASE;
 
@@ -20,7 +21,7 @@ fn blocks(last: u64, size: u64) -> u64
 /// The frames that a flat guest of that many pages takes: its pages, and the tables below the root.
 pub fn frames_needed(pages: u32) -> u64
     requires some { 0 < pages }
-    requires most { pages ≤ 131072 }
+    requires most { pages ≤ most_pages }
     ensures need { result ≡ need (flat pages) }
     ensures more { pages < result }
 {

@@ -39,7 +39,7 @@ impl Manager {
     ghost use Rattle.xv_top.specs.Answer as answers;
     ghost use Rattle.xv_top.specs.Guest.{lone_of, time_of, SameElsewhere};
     ghost use Rattle.xv_top.specs.Manager.{live_guest, world_of, Gives, Keeps, memory_end, IsSound, IsTurn, IsRunEnd};
-    ghost use Rattle.xv_top.specs.Script.{IsInRange};
+    ghost use Rattle.xv_top.specs.Script.{most_pages, IsInRange};
 
     /// A manager with no guest yet, over a machine whose memory is zeros.
     pub fn new(machine: &Machine) -> Manager
@@ -77,7 +77,7 @@ impl Manager {
     /// `guest flat NAME PAGES`
     fn flat(&mut self, name: &GuestName, pages: u32, printer: &mut Printer)
         requires empty { printer.old ≡ [] }
-        requires pages { (0 < pages) × (pages ≤ 131072) }
+        requires pages { (0 < pages) × (pages ≤ most_pages) }
         ensures answer { (bytes : List ℕ) → IsSound self.old bytes →
             Gives (answers.answer (world_of self.old bytes) (Command.Flat name.now pages))
             printer.new (world_of self.new bytes) }
