@@ -65,3 +65,7 @@ appends_front a b piece at p = record {
   whole = take-append-drop at piece;
   appended = p;
 }
+
+pub ruleset of_reads = (keeps_same, keeps_more, keeps_consumes)
+
+pub ruleset of_writes = (keeps_same, keeps_more, keeps_appends)

@@ -35,7 +35,7 @@ impl<R: Read> ReaderSource<R> {
 }
 
 // One read that goes through. A read that a signal cut off is made again.
-#[tactic(auto, using(crate::proofs::Tries::keeps_same, crate::proofs::Tries::keeps_more, crate::proofs::Tries::keeps_consumes))]
+#[tactic(auto, using(crate::proofs::Tries::of_reads))]
 fn read_some<R: Read>(reader: &mut R, buf: &mut [u8]) -> Result<usize, Failed>
     ensures within { IfOk result (λ n. n ≤ length buf.new) }
     ensures bytes { ReadConsumes (R.remaining reader.old) (R.remaining reader.new) result buf.new }
@@ -99,7 +99,7 @@ impl<W: Write> WriterSink<W> {
 }
 
 // One write that goes through. A write that a signal cut off is made again.
-#[tactic(auto, using(crate::proofs::Tries::keeps_same, crate::proofs::Tries::keeps_more, crate::proofs::Tries::keeps_appends))]
+#[tactic(auto, using(crate::proofs::Tries::of_writes))]
 fn write_some<W: Write>(writer: &mut W, piece: &[u8]) -> Result<usize, Failed>
     ensures within { IfOk result (λ n. n ≤ length piece.now) }
     ensures bytes { WriteAppends (W.contents writer.old) (W.contents writer.new) result piece.now }
@@ -116,8 +116,10 @@ fn write_some<W: Write>(writer: &mut W, piece: &[u8]) -> Result<usize, Failed>
 
 // Writes the piece to its end. A write that takes nothing of what is left is a failure.
 fn write_whole<W: Write>(writer: &mut W, piece: &[u8]) -> Result<(), Failed>
-    ensures whole { OnOk result (Appends (W.contents writer.old) (W.contents writer.new) piece.now) }
-    ensures front { OnErr result (AppendsFront (W.contents writer.old) (W.contents writer.new) piece.now) }
+    ensures whole { OnOk result
+        (Appends (W.contents writer.old) (W.contents writer.new) piece.now) }
+    ensures front { OnErr result
+        (AppendsFront (W.contents writer.old) (W.contents writer.new) piece.now) }
 {
     let mut at = 0;
     while at < piece.len() {

@@ -124,8 +124,10 @@ impl Sink for MemSink {
 
     /// A put that fails takes nothing.
     fn put(&mut self, piece: &[u8]) -> Result<(), Failed>
-        ensures appended { OnOk result (Some self.new.taken ≡ taken_with (Some self.old.taken) piece.now) }
-        ensures front { OnErr result (TookFront (Some self.old.taken) (Some self.new.taken) piece.now) }
+        ensures appended { OnOk result
+            (Some self.new.taken ≡ taken_with (Some self.old.taken) piece.now) }
+        ensures front { OnErr result
+            (TookFront (Some self.old.taken) (Some self.new.taken) piece.now) }
         ensures quiet { OnOk result (self.new.calls.faults ≡ self.old.calls.faults) }
         ensures cause { OnErr result (Rose self.old.calls.faults self.new.calls.faults) }
         ensures later { self.old.calls.faults ≤ self.new.calls.faults }

@@ -85,7 +85,8 @@ pub trait Files {
         ensures told { IfOk result (λ fetched. TellsOf (map self.old) name.now limit fetched) }
         ensures kept { map self.new ≡ map self.old }
         ensures quiet { OnOk result (faults self.new ≡ faults self.old) }
-        ensures cause { IsErrOf result FetchFault.Failed → Rose (faults self.old) (faults self.new) }
+        ensures cause { IsErrOf result FetchFault.Failed
+            → Rose (faults self.old) (faults self.new) }
         ensures want { IsErrOf result FetchFault.NoMemory → faults self.new ≡ faults self.old }
         ensures later { faults self.old ≤ faults self.new };
 }

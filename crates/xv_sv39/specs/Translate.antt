@@ -9,6 +9,10 @@ use Rattle.xv_sv39.specs.declared.leaf.Leaf.{Leaf}
 use Rattle.xv_sv39.specs.declared.tables.WalkFault.{WalkFault}
 use Rattle.xv_sv39.specs.declared.tables.WalkFault.TheVariants.{Page, Entry}
 
+-- what decides on an access: satp, whether the mode is U, SUM and MXR
+abbrev pub view_of : ℕ → Bool → Bool → Bool → View
+view_of satp user sum mxr = record { satp = satp; user = user; sum = sum; mxr = mxr }
+
 abbrev pub verdict_of : Result ℕ WalkFault → Verdict
 verdict_of (Ok gpa) = Address gpa
 verdict_of (Err Page) = PageFault

@@ -22,7 +22,8 @@ pub fn walk<R: Words>(reader: &mut R, root: u64, va: u64) -> Result<Leaf, WalkFa
     requires root { root < 2 ^ 44 }
     ensures end { (sv39.path (R.table reader.old) va 3 root).end ≡ end_of result }
     ensures leaf { IsLeaf result }
-    ensures addresses { R.addresses reader.new ≡ (sv39.path (R.table reader.old) va 3 root).addresses }
+    ensures addresses { R.addresses reader.new
+        ≡ (sv39.path (R.table reader.old) va 3 root).addresses }
     ensures table { R.table reader.new ≡ R.table reader.old }
     ensures rule { R.rule reader.old → R.rule reader.new }
 {

@@ -1,14 +1,15 @@
 //! The translation of one access.
 ghost use Rattle.std.specs.Prelude.{◌≡◌, ◌⊎◌, ◌/◌, ◌^◌, ◌<◌, []};
 ghost use Rattle.xv_pte.specs.Sv39 as sv39;
-ghost use Rattle.xv_sv39.specs.Translate.{verdict_of};
+ghost use Rattle.xv_sv39.specs.Translate.{verdict_of, view_of};
 
 use crate::leaf::Leaf;
 use crate::tables::{WalkFault, walk};
 use crate::words::Words;
 use xv_pte::{Kind3, View};
 
-/// The guest physical address of a virtual one, for an access in a mode with SUM and MXR of sstatus.
+/// The guest physical address of a virtual one, for an access in a mode, with SUM and MXR of
+/// sstatus.
 ///
 /// # Errors
 ///
@@ -24,8 +25,10 @@ pub fn translate<R: Words>(
 ) -> Result<u64, WalkFault>
     requires empty { R.addresses reader.old ≡ [] }
     requires mode { (satp / 2 ^ 60 ≡ 0) ⊎ (satp / 2 ^ 60 ≡ 8) }
-    ensures verdict { verdict_of result ≡ sv39.verdict (R.table reader.old) (record { satp = satp; user = user; sum = sum; mxr = mxr }) va access }
-    ensures addresses { R.addresses reader.new ≡ sv39.entry_addresses (R.table reader.old) (record { satp = satp; user = user; sum = sum; mxr = mxr }) va }
+    ensures verdict { verdict_of result
+        ≡ sv39.verdict (R.table reader.old) (view_of satp user sum mxr) va access }
+    ensures addresses { R.addresses reader.new
+        ≡ sv39.entry_addresses (R.table reader.old) (view_of satp user sum mxr) va }
     ensures table { R.table reader.new ≡ R.table reader.old }
     ensures rule { R.rule reader.old → R.rule reader.new }
 {
@@ -49,7 +52,8 @@ pub fn translate<R: Words>(
 
 fn leaf_verdict(view: &View, va: u64, access: Kind3, leaf: &Leaf) -> Result<u64, WalkFault>
     requires { leaf.now.level < 3 }
-    ensures { verdict_of result ≡ sv39.end_verdict view.now va access (sv39.Found leaf.now.level leaf.now.entry) }
+    ensures { verdict_of result
+        ≡ sv39.end_verdict view.now va access (sv39.Found leaf.now.level leaf.now.entry) }
 {
     if leaf.admits(access, view) {
         Ok(leaf.address(va))
