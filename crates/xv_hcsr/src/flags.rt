@@ -21,7 +21,8 @@ impl Flags for Hstatus {
 
     ghost exact = { ⊤ };
 
-    ghost table = { (codes "SPV", 2 ^ 7) ∷ (codes "VTVM", 2 ^ 20) ∷ (codes "VTW", 2 ^ 21) ∷ (codes "VTSR", 2 ^ 22) ∷ [] };
+    ghost table = { (codes "SPV", 2 ^ 7) ∷ (codes "VTVM", 2 ^ 20) ∷ (codes "VTW", 2 ^ 21)
+        ∷ (codes "VTSR", 2 ^ 22) ∷ [] };
 
     ghost set_of = { λ status. status.0 };
 
@@ -38,8 +39,8 @@ impl Flags for Hstatus {
     }
 }
 
-/// The exceptions that a guest takes by itself, as bits of hedeleg (section 8.2.2): each but the
-/// access faults and the calls from S, which it can't make there or which the hypervisor answers.
+/// The exceptions that a guest takes by itself, as bits of hedeleg (section 8.2.2). Calls from S the
+/// hypervisor answers, and access faults it makes of guest-page faults.
 #[derive(Clone, Copy, Debug, PartialEq, Eq)]
 pub struct GuestExceptions(u64);
 
@@ -63,8 +64,9 @@ impl Flags for GuestExceptions {
     ghost exact = { ⊤ };
 
     ghost table = { (codes "FETCH_MISALIGNED", 2 ^ 0) ∷ (codes "ILLEGAL_INSTRUCTION", 2 ^ 2)
-        ∷ (codes "BREAKPOINT", 2 ^ 3) ∷ (codes "LOAD_MISALIGNED", 2 ^ 4) ∷ (codes "STORE_MISALIGNED", 2 ^ 6)
-        ∷ (codes "USER_CALL", 2 ^ 8) ∷ (codes "FETCH_PAGE_FAULT", 2 ^ 12) ∷ (codes "LOAD_PAGE_FAULT", 2 ^ 13)
+        ∷ (codes "BREAKPOINT", 2 ^ 3) ∷ (codes "LOAD_MISALIGNED", 2 ^ 4)
+        ∷ (codes "STORE_MISALIGNED", 2 ^ 6) ∷ (codes "USER_CALL", 2 ^ 8)
+        ∷ (codes "FETCH_PAGE_FAULT", 2 ^ 12) ∷ (codes "LOAD_PAGE_FAULT", 2 ^ 13)
         ∷ (codes "STORE_PAGE_FAULT", 2 ^ 15) ∷ [] };
 
     ghost set_of = { λ exceptions. exceptions.0 };
@@ -99,7 +101,8 @@ impl Flags for GuestInterrupts {
 
     ghost exact = { ⊤ };
 
-    ghost table = { (codes "SOFTWARE", 2 ^ 2) ∷ (codes "TIMER", 2 ^ 6) ∷ (codes "EXTERNAL", 2 ^ 10) ∷ [] };
+    ghost table = { (codes "SOFTWARE", 2 ^ 2) ∷ (codes "TIMER", 2 ^ 6)
+        ∷ (codes "EXTERNAL", 2 ^ 10) ∷ [] };
 
     ghost set_of = { λ interrupts. interrupts.0 };
 

@@ -43,7 +43,7 @@ pub struct HCsrs {
 }
 
 impl HCsrs {
-    /// The registers for the guest with the key `vmid` behind the root table of number `root`, whose
+    /// The registers for the guest with the key `vmid` behind the root table of number `root`. Its
     /// time is the host's clock and `delta`, modulo 2^64. No line is up.
     #[tactic(auto, unfolding(crate::specs::Guest::guest_hcsrs, bitflags::proofs::OnLiterals::bitflags_on_literals))]
     pub fn for_guest(root: u8, vmid: GuestKey, delta: u64) -> HCsrs
@@ -69,7 +69,8 @@ impl HCsrs {
     /// interrupt, its timer and its interrupt controller.
     #[tactic(auto, using(crate::proofs::LineLemmas::lines))]
     pub fn set_lines(&mut self, ssip: bool, timer: bool, external: bool)
-        ensures lines { self.new ≡ record self.old { hvip = with_lines ssip timer external self.old.hvip } }
+        ensures lines { self.new
+            ≡ record self.old { hvip = with_lines ssip timer external self.old.hvip } }
         ensures software { software_line self.new ≡ ssip }
         ensures timer { timer_line self.new ≡ timer }
         ensures external { external_line self.new ≡ external }
