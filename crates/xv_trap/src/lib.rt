@@ -1,5 +1,5 @@
 //! Traps into S of one VCPU, its return from them, and which interrupt is taken (Privileged
-//! Architecture 20211203, sections 4.1.1 to 4.1.3).
+//! Architecture 20211203, sections 4.1.1 to 4.1.3). Which traps enter a guest (section 8.2.2).
 #![tactic(auto)]
 
 ghost use Rattle.std.specs.Prelude.{◌≡◌, ◌%◌};
@@ -8,10 +8,12 @@ ghost use Rattle.xv_csr.specs.Kept.{IsKept};
 ghost use Rattle.xv_csr.specs.Pending.{chosen_interrupt, first_of};
 ghost use Rattle.xv_csr.specs.Trap.{entry_status, entered, handler, return_status, returned, returns_to_user};
 
+mod delegation;
 #[cfg(test)]
 mod tests;
 
 use bitflags::Flags;
+pub use delegation::delegated;
 use xv_csr::{Interrupts, Lines, SCsrs, Sstatus};
 
 // the top bit of a cause says that it is an interrupt
