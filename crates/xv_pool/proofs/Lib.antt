@@ -1,0 +1,5 @@
+pub mod MarkLemmas
+pub mod RangeLemmas
+pub mod SoundLemmas
+pub mod SumLemmas
+pub mod Examples

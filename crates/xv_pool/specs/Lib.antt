@@ -1,0 +1,5 @@
+pub mod FrameList
+pub mod Kept
+pub mod Marks
+pub mod Range
+pub mod Resources
