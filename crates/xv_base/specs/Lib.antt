@@ -3,4 +3,5 @@ pub mod Fault
 pub mod Name
 pub mod Number
 pub mod Padded
+pub mod Serial
 pub mod Text
