@@ -1,0 +1,1 @@
+pub use Rattle.xv_bus.specs.Finisher

@@ -1,0 +1,4 @@
+pub mod BelowLemmas
+pub mod ClaimLemmas
+pub mod HoldsLemmas
+pub mod LineLemmas

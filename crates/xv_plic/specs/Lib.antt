@@ -1,0 +1,2 @@
+pub mod Registers
+pub use Rattle.xv_bus.specs.Plic
