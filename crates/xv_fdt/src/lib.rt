@@ -10,6 +10,8 @@ mod names;
 mod nodes;
 mod properties;
 mod reading;
+#[cfg(test)]
+mod tests;
 mod token;
 mod tree;
 mod writing;
