@@ -6,5 +6,6 @@ ghost use Rattle.xv_fdt.specs.Written.{written};
 
 /// What `write` writes of a tree that some file has is read as that tree.
 pub fn reads_again()
-    ensures { (entries : List Entry) → IsAllowed entries → length (written entries) ≤ 1048576 → tree (written entries) ≡ Ok entries }
+    ensures { (entries : List Entry) → IsAllowed entries → length (written entries) ≤ 1048576
+        → tree (written entries) ≡ Ok entries }
 {}

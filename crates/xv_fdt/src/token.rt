@@ -55,7 +55,8 @@ pub(crate) fn next_token(block: &[u8], from: usize) -> (Mark, usize)
     ensures mark { spec.mark_at block.now result.1 ≡ result.0 }
     ensures solid { result.0 ≢ Mark.Nop }
     ensures whole { result.0 ≢ Mark.Cut → result.1 + 4 ≤ length block.now }
-    ensures same { (strings : List ℕ) → spec.tokens block.now strings result.1 ≡ spec.tokens block.now strings from }
+    ensures same { (strings : List ℕ) →
+        spec.tokens block.now strings result.1 ≡ spec.tokens block.now strings from }
     ensures near { result.1 ≤ length block.now + 3 }
     ensures forward { from ≤ result.1 }
 {

@@ -91,8 +91,10 @@ fn put_begin(out: &mut Vec<u8>, name: &[u8]) -> Result<(), NoMemory>
 /// Puts a property, and its name at the end of the strings.
 #[tactic(auto, unfolding(crate::specs::Written::property_bytes))]
 fn put_property(structure: &mut Vec<u8>, strings: &mut Vec<u8>, prop: &Prop) -> Result<(), NoMemory>
-    ensures structure { OnOk result (structure.new.items ≡ structure.old.items ++ spec.property_bytes (length strings.old.items) prop.now) }
-    ensures strings { OnOk result (strings.new.items ≡ strings.old.items ++ ((prop.now).name ++ (0 ∷ []))) }
+    ensures structure { OnOk result (structure.new.items
+        ≡ structure.old.items ++ spec.property_bytes (length strings.old.items) prop.now) }
+    ensures strings { OnOk result (strings.new.items
+        ≡ strings.old.items ++ ((prop.now).name ++ (0 ∷ []))) }
 {
     put_word(structure, PROP)?;
     put_word(structure, prop.value.len())?;
@@ -108,7 +110,8 @@ fn put_properties(
     strings: &mut Vec<u8>,
     props: &[Prop],
 ) -> Result<(), NoMemory>
-    ensures structure { OnOk result (structure.new.items ≡ structure.old.items ++ spec.properties_bytes (length strings.old.items) props.now) }
+    ensures structure { OnOk result (structure.new.items
+        ≡ structure.old.items ++ spec.properties_bytes (length strings.old.items) props.now) }
     ensures strings { OnOk result (strings.new.items ≡ strings.old.items ++ spec.names_bytes props.now) }
 {
     for prop in props {
@@ -126,17 +129,20 @@ fn put_ends(out: &mut Vec<u8>, count: usize) -> Result<(), NoMemory>
     Ok(())
 }
 
-/// Ends the open nodes that a node isn't in, and puts the node with its properties, whose names go to
-/// the end of the strings.
+/// Ends the open nodes that a node isn't in, and puts the node with its properties, whose names go
+/// to the end of the strings.
 fn put_node(
     structure: &mut Vec<u8>,
     strings: &mut Vec<u8>,
     open_nodes: u8,
     node: &Node,
 ) -> Result<(), NoMemory>
-    ensures structure { OnOk result (structure.new.items ≡ structure.old.items ++ (spec.ends (open_nodes + 1 - (node.now).depth)
-        ++ (spec.begin_bytes (node.now).name ++ spec.properties_bytes (length strings.old.items) (node.now).props))) }
-    ensures strings { OnOk result (strings.new.items ≡ strings.old.items ++ spec.names_bytes (node.now).props) }
+    ensures structure { OnOk result (structure.new.items
+        ≡ structure.old.items ++ (spec.ends (open_nodes + 1 - (node.now).depth)
+        ++ (spec.begin_bytes (node.now).name
+        ++ spec.properties_bytes (length strings.old.items) (node.now).props))) }
+    ensures strings { OnOk result (strings.new.items
+        ≡ strings.old.items ++ spec.names_bytes (node.now).props) }
 {
     put_ends(
         structure,
@@ -149,7 +155,8 @@ fn put_node(
 
 /// Puts the nodes and their ends, and the names of their properties at the end of the strings.
 fn put_nodes(structure: &mut Vec<u8>, strings: &mut Vec<u8>, nodes: &[Node]) -> Result<(), NoMemory>
-    ensures structure { OnOk result (structure.new.items ≡ structure.old.items ++ spec.structure_bytes 0 (length strings.old.items) nodes.now) }
+    ensures structure { OnOk result (structure.new.items
+        ≡ structure.old.items ++ spec.structure_bytes 0 (length strings.old.items) nodes.now) }
     ensures strings { OnOk result (strings.new.items ≡ strings.old.items ++ spec.strings_bytes nodes.now) }
 {
     let mut open_nodes: u8 = 0;
@@ -173,7 +180,8 @@ fn put_words(out: &mut Vec<u8>, numbers: &[usize]) -> Result<(), NoMemory>
 
 /// Puts the header for blocks of these sizes. A field keeps the lowest 32 bits, so a sum may wrap.
 fn put_header(out: &mut Vec<u8>, structure: usize, strings: usize) -> Result<(), NoMemory>
-    ensures { OnOk result (out.new.items ≡ out.old.items ++ spec.words_bytes (spec.header_fields structure strings)) }
+    ensures { OnOk result (out.new.items
+        ≡ out.old.items ++ spec.words_bytes (spec.header_fields structure strings)) }
 {
     let end = STRUCTURE.wrapping_add(structure);
     let fields = [
@@ -193,9 +201,9 @@ fn put_header(out: &mut Vec<u8>, structure: usize, strings: usize) -> Result<(),
 }
 
 /// The file of this tree: its header (version 17, last compatible version 16), one pair of zeros as
-/// reservations, its structure, and its strings, none of them shared (Devicetree Specification v0.4,
-/// chapter 5). `read` gives the tree again if some file has it and this one has at most 1,048,576
-/// bytes.
+/// reservations, its structure, and its strings, none of them shared (Devicetree Specification
+/// v0.4, chapter 5). `read` gives the tree again if some file has it and this one has at most
+/// 1,048,576 bytes.
 #[tactic(auto, unfolding(crate::specs::Written::written))]
 pub fn write(alloc: Global, tree: &Tree) -> Result<Vec<u8>, NoMemory>
     ensures { IfOk result (λ bytes. bytes.items ≡ spec.written tree.now) }

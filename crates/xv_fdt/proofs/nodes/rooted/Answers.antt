@@ -29,7 +29,7 @@ returns-in_err-first c =
     let strings = c.args.blocks.now.strings.now in
     let place = c.next_token-mark.result.1 in
     rw (p.1, p.2)
-    (rooted-end c.in_err-first.field-0.0 place (spec.name_at structure place) (spec.tokens structure strings c.args.from) (spec.tokens structure strings place) (tokens_inside structure strings place)
+    (rooted-end c.in_err-first.field-0.0 place (spec.name_at structure place) (spec.tokens structure strings c.args.from) (spec.tokens structure strings place) (tokens_inside c.args.blocks.now place)
     (c.next_token-mark.ensures.same strings)
     (tokens-at structure strings place _ (c.next_token-mark.ensures.mark ∙ c.in-Begin.is))
     c.in_err-first.ensures.exact)
@@ -43,7 +43,7 @@ returns-in_err-next c =
     let e = c.in_err-next.field-0.0 in
     let inside = spec.tokens structure strings c.in_ok-first.inside in
     rw (p.1, p.2)
-    (rooted-below_end e place (spec.name_at structure place) c.in_ok-first.first (spec.tokens structure strings c.args.from) (spec.tokens structure strings place) (tokens_inside structure strings place) inside
+    (rooted-below_end e place (spec.name_at structure place) c.in_ok-first.first (spec.tokens structure strings c.args.from) (spec.tokens structure strings place) (tokens_inside c.args.blocks.now place) inside
     (c.next_token-mark.ensures.same strings)
     (tokens-at structure strings place _ (c.next_token-mark.ensures.mark ∙ c.in-Begin.is))
     c.in_ok-first.ensures.exact
@@ -59,7 +59,7 @@ returns-in_default-mark c =
     let inside = spec.tokens structure strings c.in_ok-first.inside in
     let next = spec.tokens structure strings c.in_ok-next.next in
     rw (c.fault-in_default-mark.ensures, c.stray-in_default-mark.ensures)
-    (rooted-whole place (spec.name_at structure place) c.in_ok-first.first now (spec.tokens structure strings c.args.from) (spec.tokens structure strings place) (tokens_inside structure strings place) inside next
+    (rooted-whole place (spec.name_at structure place) c.in_ok-first.first now (spec.tokens structure strings c.args.from) (spec.tokens structure strings place) (tokens_inside c.args.blocks.now place) inside next
     (c.next_token-mark.ensures.same strings)
     (tokens-at structure strings place _ (c.next_token-mark.ensures.mark ∙ c.in-Begin.is))
     c.in_ok-first.ensures.exact
@@ -76,7 +76,7 @@ returns c =
     let now = c.children.new.nodes.items in
     let inside = spec.tokens structure strings c.in_ok-first.inside in
     let next = spec.tokens structure strings c.in_ok-next.next in
-    rooted-whole place (spec.name_at structure place) c.in_ok-first.first now (spec.tokens structure strings c.args.from) (spec.tokens structure strings place) (tokens_inside structure strings place) inside next
+    rooted-whole place (spec.name_at structure place) c.in_ok-first.first now (spec.tokens structure strings c.args.from) (spec.tokens structure strings place) (tokens_inside c.args.blocks.now place) inside next
     (c.next_token-mark.ensures.same strings)
     (tokens-at structure strings place _ (c.next_token-mark.ensures.mark ∙ c.in-Begin.is))
     c.in_ok-first.ensures.exact
