@@ -90,7 +90,8 @@ fn text(bytes: &[u8]) -> Option<&[u8]>
 /// The bytes from a place on up to the first 0, or None where there is no 0.
 pub(crate) fn text_from(bytes: &[u8], at: usize) -> Option<&[u8]>
     ensures inside { IfSome result (λ text. at + length text.now < length bytes.now) }
-    ensures text { option_map (λ (text : Bor (List ℕ)). text.now) result ≡ spec.text (drop at bytes.now) }
+    ensures text { option_map (λ (text : Bor (List ℕ)). text.now) result
+        ≡ spec.text (drop at bytes.now) }
 {
     if bytes.len() < at {
         None

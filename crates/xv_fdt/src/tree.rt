@@ -33,7 +33,12 @@ impl Model for Node {
 
     ghost Value = { Entry };
 
-    ghost view = { λ n. record { name = n.name; parent = n.parent; depth = n.depth; props = n.props.items } };
+    ghost view = { λ n. record {
+      name = n.name;
+      parent = n.parent;
+      depth = n.depth;
+      props = n.props.items;
+    } };
 }
 
 /// The nodes in order of their begin tokens, the root first. Contracts see the list of them.

@@ -112,7 +112,8 @@ fn put_properties(
 ) -> Result<(), NoMemory>
     ensures structure { OnOk result (structure.new.items
         ≡ structure.old.items ++ spec.properties_bytes (length strings.old.items) props.now) }
-    ensures strings { OnOk result (strings.new.items ≡ strings.old.items ++ spec.names_bytes props.now) }
+    ensures strings { OnOk result (strings.new.items
+        ≡ strings.old.items ++ spec.names_bytes props.now) }
 {
     for prop in props {
         put_property(structure, strings, prop)?;
@@ -157,7 +158,8 @@ fn put_node(
 fn put_nodes(structure: &mut Vec<u8>, strings: &mut Vec<u8>, nodes: &[Node]) -> Result<(), NoMemory>
     ensures structure { OnOk result (structure.new.items
         ≡ structure.old.items ++ spec.structure_bytes 0 (length strings.old.items) nodes.now) }
-    ensures strings { OnOk result (strings.new.items ≡ strings.old.items ++ spec.strings_bytes nodes.now) }
+    ensures strings { OnOk result (strings.new.items
+        ≡ strings.old.items ++ spec.strings_bytes nodes.now) }
 {
     let mut open_nodes: u8 = 0;
     for node in nodes {
