@@ -19,7 +19,7 @@ both : (a b : Bool) → (a && b) ≡ true → (a ≡ true) × (b ≡ true)
 both true b h = (refl, h)
 both false b h = absurd cc
 
-new-dev_name : (taken : Names) (name : List ℕ) → is_new taken name ≡ true → is_dev_name name ≡ true
+pub new-dev_name : (taken : Names) (name : List ℕ) → is_new taken name ≡ true → is_dev_name name ≡ true
 new-dev_name taken name new = (both (is_dev_name name) (not (taken name)) new).0
 
 -- ---- what was read of properties

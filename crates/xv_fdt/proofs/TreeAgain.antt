@@ -24,16 +24,16 @@ ok_is x y e = cc
 
 -- ---- what was read of a whole tree
 
-record Rooted (es : List Entry) : Type 0 where
-  root : Entry
-  nameless : root.name ≡ []
-  outside : root.parent ≡ 0
-  first : root.depth ≡ 1
-  props_new : AllNew nobody root.props
-  inner : List Token
-  below : List Entry × List Token
-  below_is : children 1 0 2 nobody inner ≡ Ok below
-  all : es ≡ root ∷ below.0
+pub record Rooted (es : List Entry) : Type 0 where
+  pub root : Entry
+  pub nameless : root.name ≡ []
+  pub outside : root.parent ≡ 0
+  pub first : root.depth ≡ 1
+  pub props_new : AllNew nobody root.props
+  pub inner : List Token
+  pub below : List Entry × List Token
+  pub below_is : children 1 0 2 nobody inner ≡ Ok below
+  pub all : es ≡ root ∷ below.0
 
 root_nameless : (at : ℕ) (read : Result (List ℕ) FdtKind) (name : List ℕ) → root_name at read ≡ Ok name → name ≡ []
 root_nameless at read name e =
@@ -134,7 +134,7 @@ file-tree structure strings es aligned small is names r =
     let again = rooted-again block strings (omega (arith, length-take (56 + length structure) file, small)) (omega (arith, len, small)) es r 56 0 (at_block ∙ is) names in
     rw f.header_is (ap (λ s. rooted (tokens block s 56)) at_strings ∙ again)
 
-rooted_of : (bytes : List ℕ) (es : List Entry) → tree bytes ≡ Ok es → Rooted es
+pub rooted_of : (bytes : List ℕ) (es : List Entry) → tree bytes ≡ Ok es → Rooted es
 unfolding tree
 rooted_of bytes es e =
     let layout = bind_ok (header bytes) (λ layout. rooted (tokens (structure_block bytes layout) (strings_block bytes layout) layout.structure)) es e in
