@@ -8,7 +8,7 @@ use Rattle.xv_fdt.specs.Tree.{Entry}
 use Rattle.xv_fdt.specs.Grammar.{Names, nobody, with_name, node_name, nodes, children, IsAllowed}
 use Rattle.xv_fdt.specs.Shape.{IsInner, AreInner, IsShaped}
 use Rattle.xv_fdt.proofs.NodeLemmas.{child_ok}
-use Rattle.xv_fdt.proofs.NodesAgain.{new-dev_name, begun-node, node_name-new}
+use Rattle.xv_fdt.proofs.NodesAgain.{new-dev_name, node_of-node, node_name-new}
 use Rattle.xv_fdt.proofs.TreeAgain.{Rooted, rooted_of}
 
 abbrev ok : {A : Type 0} → A → Result A Fault
@@ -32,7 +32,7 @@ inner_nodes (suc n) next parent depth taken [] x e lt deep = absurd cc
 inner_nodes (suc n) next parent depth taken (EndNode at ∷ ts) x e lt deep = subst (InnerFrom next) (ok_is ([], ts) x e) tt
 inner_nodes (suc n) next parent depth taken (Begin at read ∷ ts) x e lt deep =
     let c = child_ok (nodes n) next parent depth taken at read ts x e in
-    let node = begun-node (node_name taken at read) parent depth ts c.first c.first_is in
+    let node = node_of-node (node_name taken at read) parent depth ts c.first c.first_is in
     let named : is_dev_name node.name ≡ true = new-dev_name taken node.name (node_name-new taken at read node.name node.named_is) in
     let first : IsInner next c.first.0 =
     subst (IsInner next) node.entry_is

@@ -8,7 +8,7 @@ ghost use Rattle.xv_fdt.specs.Token as spec;
 use crate::blocks::{Blocks, property_at};
 use crate::fault::{FdtFault, FdtKind, fault};
 use crate::names::NameSet;
-use crate::token::{Mark, next_token, padded};
+use crate::token::{Mark, next_token, padded_len};
 use crate::tree::Prop;
 use std::alloc::Global;
 
@@ -41,7 +41,7 @@ fn property(
         return Err(fault(FdtKind::BadName, at));
     };
     names.add(name)?;
-    let next = at + 12 + padded(value.len());
+    let next = at + 12 + padded_len(value.len());
     let value = Vec::from_slice(alloc, value)?;
     Ok((Prop { name, value }, next))
 }

@@ -6,7 +6,7 @@ ghost use Rattle.xv_fdt.specs.Grammar.{IsAllowed, tree};
 use crate::blocks::Blocks;
 use crate::fault::FdtFault;
 use crate::header::header;
-use crate::nodes::rooted;
+use crate::nodes::nodes_of;
 use crate::tree::Tree;
 use std::alloc::Global;
 
@@ -19,7 +19,7 @@ fn tree_of(alloc: Global, bytes: &[u8]) -> Result<Tree, FdtFault>
         structure: &bytes[..layout.structure + layout.structure_size],
         strings: &bytes[layout.strings..layout.strings + layout.strings_size],
     };
-    let nodes = rooted(alloc, &blocks, layout.structure)?;
+    let nodes = nodes_of(alloc, &blocks, layout.structure)?;
     Ok(Tree { nodes })
 }
 

@@ -101,9 +101,9 @@ pub(crate) fn text_from(bytes: &[u8], at: usize) -> Option<&[u8]>
 }
 
 /// The length with padding to the next multiple of 4.
-pub(crate) fn padded(len: usize) -> usize
+pub(crate) fn padded_len(len: usize) -> usize
     requires { len < 2 ^ 63 }
-    ensures padded { result ≡ spec.padded len }
+    ensures padded_len { result ≡ spec.padded_len len }
     ensures least { len ≤ result }
     ensures most { result < len + 4 }
 {

@@ -2,7 +2,7 @@
 ghost use Rattle.std.specs.Prelude.{◌≡◌, ◌+◌, ◌-◌, ◌≤◌, ◌<◌, ◌^◌, ◌++◌, ◌∷◌, [], length, replicate, OnOk, IfOk};
 ghost use Rattle.xv_fdt.specs.Written as spec;
 
-use crate::token::padded;
+use crate::token::padded_len;
 use crate::tree::{Node, Prop, Tree};
 use byteorder::{BigEndian, ByteOrder};
 use std::alloc::Global;
@@ -65,7 +65,7 @@ fn put_padded(out: &mut Vec<u8>, bytes: &[u8]) -> Result<(), NoMemory>
     ensures { OnOk result (out.new.items ≡ out.old.items ++ spec.with_padding bytes.now) }
 {
     put(out, bytes)?;
-    put_zeros(out, padded(bytes.len()) - bytes.len())
+    put_zeros(out, padded_len(bytes.len()) - bytes.len())
 }
 
 /// A name and the 0 behind it.
@@ -85,7 +85,7 @@ fn put_begin(out: &mut Vec<u8>, name: &[u8]) -> Result<(), NoMemory>
     put_word(out, BEGIN_NODE)?;
     put_name(out, name)?;
     let len = name.len() + 1;
-    put_zeros(out, padded(len) - len)
+    put_zeros(out, padded_len(len) - len)
 }
 
 /// Puts a property, and its name at the end of the strings.

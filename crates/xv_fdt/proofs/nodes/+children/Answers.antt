@@ -88,7 +88,7 @@ returns-in_default t c =
     c.next_token-mark.ensures.mark c.in_default.not-Begin c.in_default.not-EndNode c.next_token-mark.ensures.solid
     (c.next_token-mark.ensures.same strings) c.loop-nodes.invariant.so_far in
     record {
-      exact = rw (c.fault.ensures, c.stray_child.ensures) stray;
+      exact = rw (c.fault.ensures, c.stray_child_kind.ensures) stray;
       few = tt;
       forward = tt;
       near = tt;
