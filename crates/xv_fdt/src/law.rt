@@ -1,4 +1,4 @@
-//! Laws over the definitions: reading and writing agree, and what each tree that was read looks like.
+//! Laws over the definitions: reading and writing agree, and what a tree that was read looks like.
 ghost use Rattle.std.specs.Prelude.{◌≡◌, ◌≤◌, List, length, Ok};
 ghost use Rattle.xv_fdt.specs.Grammar.{IsAllowed, tree};
 ghost use Rattle.xv_fdt.specs.Shape.{IsShaped};
@@ -11,8 +11,8 @@ pub fn reads_again()
         → tree (written entries) ≡ Ok entries }
 {}
 
-/// Each tree that some file has begins with the root, and every other node has a name, lies in a node
-/// before it, and has a depth of 2 to 16.
+/// Each tree that some file has begins with the root, and every other node has a name, lies in a
+/// node before it, and has a depth of 2 to 16.
 pub fn is_shaped()
     ensures { (entries : List Entry) → IsAllowed entries → IsShaped entries }
 {}

@@ -24,8 +24,8 @@ fn tree_of(alloc: Global, bytes: &[u8]) -> Result<Tree, FdtFault>
 }
 
 /// The tree of the bytes of a file (Devicetree Specification v0.4, chapter 5), or the first rule
-/// that the file breaks. A file of n bytes costs no more than n log n steps, and less than 40 n bytes
-/// of memory.
+/// that the file breaks. A file of n bytes costs no more than n log n steps, and less than 40 n
+/// bytes of memory.
 pub fn read(alloc: Global, bytes: &[u8]) -> Result<Tree, FdtFault>
     ensures exact { Gives (λ found. found) result (tree bytes.now) }
     ensures allowed { IfOk result IsAllowed }
