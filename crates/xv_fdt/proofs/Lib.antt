@@ -10,3 +10,4 @@ pub mod PieceLemmas
 pub mod NodesAgain
 pub mod HeaderAgain
 pub mod TreeAgain
+pub mod ShapeLemmas

@@ -11,7 +11,7 @@ use Rattle.xv_fdt.specs.declared.token.Mark.TheVariants as marks
 use Rattle.xv_fdt.specs.Fault.{Fault, ◌>>=◌, given, Fails}
 use Rattle.xv_fdt.specs.Token.{Token, Begin, EndNode, Prop, Nop, End, Broken, mark_at, tokens}
 use Rattle.xv_fdt.specs.Tree.{Property, Entry}
-use Rattle.xv_fdt.specs.Grammar.{Names, nobody, with_name, property, properties, node_name, begun, nodes, children}
+use Rattle.xv_fdt.specs.Grammar.{Names, nobody, with_name, property, properties, node_name, node_of, nodes, children}
 use Rattle.xv_fdt.specs.Progress.{with_front, stray_child_kind}
 use Rattle.xv_fdt.proofs.TokenLemmas.{tokens-at}
 
@@ -60,7 +60,7 @@ begun_ok x = Ok x
 pair_is : (x y : Entry × List Token) → begun_ok x ≡ begun_ok y → x ≡ y
 pair_is x y e = cc
 
-shorter_begun : (named : Result (List ℕ) Fault) (parent depth : ℕ) (ts : List Token) (x : Entry × List Token) → begun named parent depth ts ≡ Ok x → length x.1 ≤ length ts
+shorter_begun : (named : Result (List ℕ) Fault) (parent depth : ℕ) (ts : List Token) (x : Entry × List Token) → node_of named parent depth ts ≡ Ok x → length x.1 ≤ length ts
 shorter_begun named parent depth ts x e =
     let name = bind_ok named (λ n. properties nobody ts >>= λ found. Ok (record { name = n; parent = parent; depth = depth; props = found.0 }, found.1)) x e in
     let found = bind_ok (properties nobody ts) (λ found. Ok (record { name = name.0; parent = parent; depth = depth; props = found.0 }, found.1)) x name.2 in
@@ -76,7 +76,7 @@ Reader = ℕ → ℕ → ℕ → Names → List Token → Found Entry
 abbrev pub child_step : Reader → ℕ → ℕ → ℕ → Names → ℕ → Result (List ℕ) FdtKind → List Token → Found Entry
 child_step again next parent depth taken at read ts =
     given (leb depth 16) TooDeep at
-    (begun (node_name taken at read) parent depth ts >>= λ first.
+    (node_of (node_name taken at read) parent depth ts >>= λ first.
     (again (next + 1) next (depth + 1) nobody first.1 >>= λ below.
     (again (next + 1 + length below.0) parent depth (with_name taken first.0.name) below.1 >>= λ others.
     Ok (first.0 ∷ (below.0 ++ others.0), others.1))))
@@ -85,7 +85,7 @@ child_step again next parent depth taken at read ts =
 pub record Child (again : Reader) (next parent depth : ℕ) (taken : Names) (at : ℕ) (read : Result (List ℕ) FdtKind) (ts : List Token) (x : List Entry × List Token) : Type 0 where
   pub deep : leb depth 16 ≡ true
   pub first : Entry × List Token
-  pub first_is : begun (node_name taken at read) parent depth ts ≡ Ok first
+  pub first_is : node_of (node_name taken at read) parent depth ts ≡ Ok first
   pub below : List Entry × List Token
   pub below_is : again (next + 1) next (depth + 1) nobody first.1 ≡ Ok below
   pub others : List Entry × List Token
@@ -96,11 +96,11 @@ pub child_ok : (again : Reader) (next parent depth : ℕ) (taken : Names) (at : 
     → child_step again next parent depth taken at read ts ≡ Ok x → Child again next parent depth taken at read ts x
 child_ok again next parent depth taken at read ts x e =
     let deep = given_ok (leb depth 16) TooDeep at
-    (begun (node_name taken at read) parent depth ts >>= λ first.
+    (node_of (node_name taken at read) parent depth ts >>= λ first.
     (again (next + 1) next (depth + 1) nobody first.1 >>= λ below.
     (again (next + 1 + length below.0) parent depth (with_name taken first.0.name) below.1 >>= λ others.
     Ok (first.0 ∷ (below.0 ++ others.0), others.1)))) x e in
-    let first = bind_ok (begun (node_name taken at read) parent depth ts)
+    let first = bind_ok (node_of (node_name taken at read) parent depth ts)
     (λ first. again (next + 1) next (depth + 1) nobody first.1 >>= λ below.
     (again (next + 1 + length below.0) parent depth (with_name taken first.0.name) below.1 >>= λ others.
     Ok (first.0 ∷ (below.0 ++ others.0), others.1))) x deep.1 in
@@ -131,7 +131,7 @@ child_same : (f g : Reader) (next parent depth : ℕ) (taken : Names) (at : ℕ)
     → child_step f next parent depth taken at read ts ≡ child_step g next parent depth taken at read ts
 child_same f g next parent depth taken at read ts agree shortens =
     ap (given (leb depth 16) TooDeep at)
-    (bind_same (begun (node_name taken at read) parent depth ts) (begun (node_name taken at read) parent depth ts) _ _ refl (λ first is.
+    (bind_same (node_of (node_name taken at read) parent depth ts) (node_of (node_name taken at read) parent depth ts) _ _ refl (λ first is.
     let small = shorter_begun (node_name taken at read) parent depth ts first is in
     bind_same (f (next + 1) next (depth + 1) nobody first.1) (g (next + 1) next (depth + 1) nobody first.1) _ _
     (agree (next + 1) next (depth + 1) nobody first.1 small) (λ below is'.
@@ -232,13 +232,13 @@ regrouped front below first (Err e) = refl
 -- a child was read, and all that is below it
 pub children-more : (front now : List Entry) (parent depth : ℕ) (taken taken' : Names) (at : ℕ) (read : Result (List ℕ) FdtKind) (first : Entry) (here there behind inside next : List Token) (total : Found Entry)
     → there ≡ here → there ≡ Begin at read ∷ behind
-    → given (leb depth 16) TooDeep at (begun (node_name taken at read) parent depth behind) ≡ Ok (first, inside)
+    → given (leb depth 16) TooDeep at (node_of (node_name taken at read) parent depth behind) ≡ Ok (first, inside)
     → taken' ≡ with_name taken first.name
     → with_front (front ++ first ∷ []) (children (length (front ++ first ∷ [])) (length front) (depth + 1) nobody inside) ≡ Ok (now, next)
     → with_front front (children (length front) parent depth taken here) ≡ total
     → with_front now (children (length now) parent depth taken' next) ≡ total
 children-more front now parent depth taken taken' at read first here there behind inside next total same begins found added went so_far =
-    let named = given_ok (leb depth 16) TooDeep at (begun (node_name taken at read) parent depth behind) (first, inside) found in
+    let named = given_ok (leb depth 16) TooDeep at (node_of (node_name taken at read) parent depth behind) (first, inside) found in
     let one : length (front ++ first ∷ []) ≡ length front + 1 = omega (arith, length-append front (first ∷ [])) in
     let below = read_below (front ++ first ∷ []) now (children (length (front ++ first ∷ [])) (length front) (depth + 1) nobody inside) next went in
     let below_is : children (length front + 1) (length front) (depth + 1) nobody inside ≡ Ok (below.0, next) =
@@ -265,12 +265,12 @@ fault_is x y e = cc
 -- the child is broken
 pub children-child_end : (e : FdtFault) (front : List Entry) (parent depth : ℕ) (taken : Names) (at : ℕ) (read : Result (List ℕ) FdtKind) (here there behind : List Token) (total : Found Entry)
     → there ≡ here → there ≡ Begin at read ∷ behind
-    → Fails e (given (leb depth 16) TooDeep at (begun (node_name taken at read) parent depth behind))
+    → Fails e (given (leb depth 16) TooDeep at (node_of (node_name taken at read) parent depth behind))
     → with_front front (children (length front) parent depth taken here) ≡ total → Fails e total
 children-child_end (faults.At kind offset) front parent depth taken at read here there behind total same begins fails so_far =
     sym so_far ∙ ap (λ ts. with_front front (children (length front) parent depth taken ts)) (sym same ∙ begins)
     ∙ ap (with_front front) (children-begin (length front) parent depth taken at read behind)
-    ∙ ap (with_front front) (fails_given (leb depth 16) (begun (node_name taken at read) parent depth behind) _ fails)
+    ∙ ap (with_front front) (fails_given (leb depth 16) (node_of (node_name taken at read) parent depth behind) _ fails)
   where
     fails_given : {A B : Type 0} (b : Bool) (r : Result A Fault) (f : A → Result B Fault) → given b TooDeep at r ≡ Err (kind, offset) → given b TooDeep at (r >>= f) ≡ Err (kind, offset)
     fails_given true r f e = rw e refl
@@ -280,12 +280,12 @@ children-child_end faults.NoMemory front parent depth taken at read here there b
 -- what is below the child is broken
 pub children-below_end : (e : FdtFault) (front : List Entry) (parent depth : ℕ) (taken : Names) (at : ℕ) (read : Result (List ℕ) FdtKind) (first : Entry) (here there behind inside : List Token) (total : Found Entry)
     → there ≡ here → there ≡ Begin at read ∷ behind
-    → given (leb depth 16) TooDeep at (begun (node_name taken at read) parent depth behind) ≡ Ok (first, inside)
+    → given (leb depth 16) TooDeep at (node_of (node_name taken at read) parent depth behind) ≡ Ok (first, inside)
     → Fails e (with_front (front ++ first ∷ []) (children (length (front ++ first ∷ [])) (length front) (depth + 1) nobody inside))
     → with_front front (children (length front) parent depth taken here) ≡ total → Fails e total
 children-below_end faults.NoMemory front parent depth taken at read first here there behind inside total same begins found fails so_far = tt
 children-below_end (faults.At kind offset) front parent depth taken at read first here there behind inside total same begins found fails so_far =
-    let named = given_ok (leb depth 16) TooDeep at (begun (node_name taken at read) parent depth behind) (first, inside) found in
+    let named = given_ok (leb depth 16) TooDeep at (node_of (node_name taken at read) parent depth behind) (first, inside) found in
     let one : length (front ++ first ∷ []) ≡ length front + 1 = omega (arith, length-append front (first ∷ [])) in
     let below_is : children (length front + 1) (length front) (depth + 1) nobody inside ≡ Err (kind, offset) =
     ap (λ n. children n (length front) (depth + 1) nobody inside) (sym one)

@@ -8,7 +8,7 @@ use Rattle.xv_fdt.specs.declared.token.Mark.TheVariants as marks
 use Rattle.xv_fdt.specs.Fault.{Fault, ◌>>=◌, given, fault_at}
 use Rattle.xv_fdt.specs.Token.{Token, Begin, EndNode, Prop, Nop, End, Broken, mark_of, tokens}
 use Rattle.xv_fdt.specs.Tree.{Property, Entry}
-use Rattle.xv_fdt.specs.Grammar.{Names, nobody, with_name, is_new, property, properties, node_name, begun, nodes, children}
+use Rattle.xv_fdt.specs.Grammar.{Names, nobody, with_name, is_new, property, properties, node_name, node_of, nodes, children}
 use Rattle.xv_fdt.specs.Written.{big_word, names_bytes, strings_bytes, begin_bytes, property_bytes, properties_bytes, ends, structure_bytes}
 use Rattle.xv_fdt.specs.Progress.{with_front}
 use Rattle.xv_fdt.proofs.PropertyLemmas.{properties-first, properties-none_at}
@@ -19,7 +19,7 @@ both : (a b : Bool) → (a && b) ≡ true → (a ≡ true) × (b ≡ true)
 both true b h = (refl, h)
 both false b h = absurd cc
 
-new-dev_name : (taken : Names) (name : List ℕ) → is_new taken name ≡ true → is_dev_name name ≡ true
+pub new-dev_name : (taken : Names) (name : List ℕ) → is_new taken name ≡ true → is_dev_name name ≡ true
 new-dev_name taken name new = (both (is_dev_name name) (not (taken name)) new).0
 
 -- ---- what was read of properties
@@ -67,8 +67,8 @@ pub record Node (named : Result (List ℕ) Fault) (parent depth : ℕ) (x : Entr
   pub props_new : AllNew nobody props
   pub entry_is : (record { name = name; parent = parent; depth = depth; props = props }) ≡ x.0
 
-pub begun-node : (named : Result (List ℕ) Fault) (parent depth : ℕ) (ts : List Token) (x : Entry × List Token) → begun named parent depth ts ≡ Ok x → Node named parent depth x
-begun-node named parent depth ts x e =
+pub node_of-node : (named : Result (List ℕ) Fault) (parent depth : ℕ) (ts : List Token) (x : Entry × List Token) → node_of named parent depth ts ≡ Ok x → Node named parent depth x
+node_of-node named parent depth ts x e =
     let name = bind_ok named (λ n. properties nobody ts >>= λ found. Ok (record { name = n; parent = parent; depth = depth; props = found.0 }, found.1)) x e in
     let found = bind_ok (properties nobody ts) (λ found. Ok (record { name = name.0; parent = parent; depth = depth; props = found.0 }, found.1)) x name.2 in
     let y : Entry × List Token = (record { name = name.0; parent = parent; depth = depth; props = found.0.0 }, found.0.1) in
@@ -151,7 +151,7 @@ module _ (block strings : List ℕ) (small : length block ≤ 2 ^ 20) (few : len
     pub behind : List Token
     pub tokens_are : tokens block strings at ≡ Begin at (Ok e.name) ∷ behind
     pub place : ℕ
-    pub read : begun (named at (Ok e.name)) e.parent e.depth behind ≡ Ok (e, tokens block strings place)
+    pub read : node_of (named at (Ok e.name)) e.parent e.depth behind ≡ Ok (e, tokens block strings place)
     pub rest_is : drop place block ≡ rest
 
   pub entered-again : (named : ℕ → Result (List ℕ) FdtKind → Result (List ℕ) Fault) (e : Entry) (at offset : ℕ) (rest more : List ℕ) → IsText e.name
@@ -196,7 +196,7 @@ first_depth (suc n) next parent depth taken [] x e = absurd cc
 first_depth (suc n) next parent depth taken (EndNode at ∷ ts) x e = subst (FirstOf depth) (ok_is ([], ts) x e) tt
 first_depth (suc n) next parent depth taken (Begin at read ∷ ts) x e =
     let c = child_ok (nodes n) next parent depth taken at read ts x e in
-    let node = begun-node (node_name taken at read) parent depth ts c.first c.first_is in
+    let node = node_of-node (node_name taken at read) parent depth ts c.first c.first_is in
     subst (FirstOf depth) (ok_is (c.first.0 ∷ (c.below.0 ++ c.others.0), c.others.1) x c.all)
     (sym (ap (λ (v : Entry). v.depth) node.entry_is))
 first_depth (suc n) next parent depth taken (Prop at read ∷ ts) x e = absurd cc
@@ -295,7 +295,7 @@ module _ (block strings : List ℕ) (small : length block ≤ 2 ^ 20) (few : len
       (end_case next parent depth open_nodes taken fs deep some closes)
   nodes-again (suc n) next parent depth open_nodes taken (Begin at read ∷ ts) x fs e deep some closes =
       let c = child_ok (nodes n) next parent depth taken at read ts x e in
-      let node = begun-node (node_name taken at read) parent depth ts c.first c.first_is in
+      let node = node_of-node (node_name taken at read) parent depth ts c.first c.first_is in
       let entry : Entry = record { name = node.name; parent = parent; depth = depth; props = node.props } in
       let named : c.first.0.name ≡ node.name = sym (ap (λ (v : Entry). v.name) node.entry_is) in
       let first = first_depth n (next + 1 + length c.below.0) parent depth (with_name taken c.first.0.name) c.below.1 c.others c.others_is in

@@ -9,7 +9,7 @@ use Rattle.byteorder.specs.Numbers.{big_number-reads_back, length-bytes_high_fir
 use Rattle.xv_base.specs.Name.{is_dev_name, is_dev_byte}
 use Rattle.xv_fdt.specs.declared.token.Mark.TheVariants as marks
 use Rattle.xv_fdt.specs.Header.{word}
-use Rattle.xv_fdt.specs.Token.{text, name_read, Begin, EndNode, Prop, End, mark_of, mark_at, name_at, property_at, padded, tokens}
+use Rattle.xv_fdt.specs.Token.{text, name_read, Begin, EndNode, Prop, End, mark_of, mark_at, name_at, property_at, padded_len, tokens}
 use Rattle.xv_fdt.specs.Tree.{Property}
 use Rattle.xv_fdt.specs.Written.{big_word, with_padding, begin_bytes, property_bytes}
 use Rattle.xv_fdt.proofs.TokenLemmas.{tokens-at, tokens-begin, tokens-property}
@@ -40,17 +40,17 @@ pub inside_word : (block rest : List ℕ) (at n : ℕ) → drop at block ≡ big
 inside_word block rest at n stands =
     omega (arith, length-big_word n, inside block (big_word n) rest at stands (omega (arith, length-big_word n)))
 
-pub length-with_padding : (bytes : List ℕ) → length (with_padding bytes) ≡ padded (length bytes)
+pub length-with_padding : (bytes : List ℕ) → length (with_padding bytes) ≡ padded_len (length bytes)
 unfolding with_padding
 length-with_padding bytes =
-    omega (arith, length-append bytes (replicate (padded (length bytes) - length bytes) 0), length-replicate {A = ℕ} (padded (length bytes) - length bytes) 0)
+    omega (arith, length-append bytes (replicate (padded_len (length bytes) - length bytes) 0), length-replicate {A = ℕ} (padded_len (length bytes) - length bytes) 0)
 
 pub padding : List ℕ → List ℕ
-padding bytes = replicate (padded (length bytes) - length bytes) 0
+padding bytes = replicate (padded_len (length bytes) - length bytes) 0
 
 with_padding-append : (bytes rest : List ℕ) → with_padding bytes ++ rest ≡ bytes ++ (padding bytes ++ rest)
 unfolding with_padding padding
-with_padding-append bytes rest = append_assoc bytes (replicate (padded (length bytes) - length bytes) 0) rest
+with_padding-append bytes rest = append_assoc bytes (replicate (padded_len (length bytes) - length bytes) 0) rest
 
 -- ---- marks
 
@@ -113,14 +113,14 @@ begin-again block strings at name rest is_text stands =
     let named : drop (at + 4) block ≡ name ++ (0 ∷ (padding bytes ++ rest)) =
     inner ∙ with_padding-append bytes rest ∙ append_assoc name (0 ∷ []) (padding bytes ++ rest) in
     let read : name_at block at ≡ Ok name = ap name_read (ap text named ∙ is_text (padding bytes ++ rest)) in
-    let len : length (with_padding bytes) ≡ padded (length name + 1) =
-    length-with_padding bytes ∙ ap padded (length-append name (0 ∷ [])) in
+    let len : length (with_padding bytes) ≡ padded_len (length name + 1) =
+    length-with_padding bytes ∙ ap padded_len (length-append name (0 ∷ [])) in
     let is_begin : mark_at block at ≡ marks.Begin = mark_is block (with_padding bytes ++ rest) at 1 words (omega arith) in
     record {
-      next = at + 4 + padded (length name + 1);
+      next = at + 4 + padded_len (length name + 1);
       tokens_are =
           tokens-begin block strings at name is_begin read
-          ∙ ap (λ r. Begin at r ∷ tokens block strings (at + 4 + padded (length name + 1))) read;
+          ∙ ap (λ r. Begin at r ∷ tokens block strings (at + 4 + padded_len (length name + 1))) read;
       rest_is = ap (λ n. drop (at + 4 + n) block) (sym len) ∙ behind block (with_padding bytes) rest (at + 4) inner;
     }
 
@@ -164,9 +164,9 @@ property-again block strings at offset p rest more small few is_text stands name
     let read : property_at block strings at ≡ Ok p = rw (t1, len_is, t2, offset_is, name_is, value_is) refl in
     let is_prop : mark_at block at ≡ marks.Prop = mark_is block _ at 3 r0 (omega arith) in
     record {
-      next = at + 12 + padded (length p.value);
+      next = at + 12 + padded_len (length p.value);
       tokens_are =
           tokens-property block strings at p is_prop read
-          ∙ ap (λ r. Prop at r ∷ tokens block strings (at + 12 + padded (length p.value))) read;
+          ∙ ap (λ r. Prop at r ∷ tokens block strings (at + 12 + padded_len (length p.value))) read;
       rest_is = ap (λ n. drop (at + 12 + n) block) (sym (length-with_padding p.value)) ∙ behind block value rest (at + 12) r3;
     }

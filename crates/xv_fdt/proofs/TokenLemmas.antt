@@ -7,7 +7,7 @@ use Rattle.std.proofs.lemmas.Bool.Decides.{nat_tests}
 use Rattle.xv_fdt.specs.declared.fault.FdtKind.{FdtKind}
 use Rattle.xv_fdt.specs.declared.token.Mark.{Mark}
 use Rattle.xv_fdt.specs.declared.token.Mark.TheVariants as marks
-use Rattle.xv_fdt.specs.Token.{text, Begin, Prop, mark_at, name_at, property_at, token_of, token_at, padded, next_of, before, tokens_up_to, tokens}
+use Rattle.xv_fdt.specs.Token.{text, Begin, Prop, mark_at, name_at, property_at, token_of, token_at, padded_len, next_of, before, tokens_up_to, tokens}
 use Rattle.xv_fdt.specs.Tree.{Property}
 use Rattle.xv_fdt.specs.Progress.{tokens_after}
 
@@ -62,11 +62,11 @@ Further block at next = (at + 4 ≤ length block) × (at + 4 ≤ next)
 
 -- what is next lies further on
 further_name : (at next : ℕ) (name : Result (List ℕ) FdtKind) → next_of (Begin at name) ≡ Some next → at + 4 ≤ next
-further_name at next (Ok name) e = let there : at + 4 + padded (length name + 1) ≡ next = cc in omega arith
+further_name at next (Ok name) e = let there : at + 4 + padded_len (length name + 1) ≡ next = cc in omega arith
 further_name at next (Err kind) e = absurd cc
 
 further_property : (at next : ℕ) (property : Result Property FdtKind) → next_of (Prop at property) ≡ Some next → at + 4 ≤ next
-further_property at next (Ok p) e = let there : at + 12 + padded (length p.value) ≡ next = cc in omega arith
+further_property at next (Ok p) e = let there : at + 12 + padded_len (length p.value) ≡ next = cc in omega arith
 further_property at next (Err kind) e = absurd cc
 
 further_of : (block strings : List ℕ) (at next : ℕ) (mark : Mark) → mark_at block at ≡ mark → next_of (token_of block strings at mark) ≡ Some next → Further block at next
@@ -136,14 +136,14 @@ tokens-nop block strings at is = tokens-at block strings at marks.Nop is
 
 -- a property, and the tokens behind it
 pub tokens-property : (block strings : List ℕ) (at : ℕ) (p : Property) → mark_at block at ≡ marks.Prop → property_at block strings at ≡ Ok p
-    → tokens block strings at ≡ Prop at (property_at block strings at) ∷ tokens block strings (at + 12 + padded (length p.value))
+    → tokens block strings at ≡ Prop at (property_at block strings at) ∷ tokens block strings (at + 12 + padded_len (length p.value))
 tokens-property block strings at p is found =
     tokens-at block strings at marks.Prop is
     ∙ ap (λ r. Prop at (property_at block strings at) ∷ tokens_after block strings (next_of (Prop at r))) found
 
 -- a begin token, and the tokens behind its name
 pub tokens-begin : (block strings : List ℕ) (at : ℕ) (name : List ℕ) → mark_at block at ≡ marks.Begin → name_at block at ≡ Ok name
-    → tokens block strings at ≡ Begin at (name_at block at) ∷ tokens block strings (at + 4 + padded (length name + 1))
+    → tokens block strings at ≡ Begin at (name_at block at) ∷ tokens block strings (at + 4 + padded_len (length name + 1))
 tokens-begin block strings at name is found =
     tokens-at block strings at marks.Begin is
     ∙ ap (λ r. Begin at (name_at block at) ∷ tokens_after block strings (next_of (Begin at r))) found

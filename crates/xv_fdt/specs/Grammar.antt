@@ -28,22 +28,22 @@ is_new taken name = is_dev_name name && not (taken name)
 -- ---- the fault at a token that may not stand where it stands
 
 -- at a begin, end-node, end or property that nothing allows
-abbrev pub stray : Token → Fault
-stray (Begin at name) = (Unbalanced, at)
-stray (EndNode at) = (Unbalanced, at)
-stray (Prop at property) = (Unbalanced, at)
-stray (Nop at) = (Unbalanced, at)
-stray (End at) = (Unbalanced, at)
-stray (Broken at kind) = (kind, at)
+abbrev pub stray_fault : Token → Fault
+stray_fault (Begin at name) = (Unbalanced, at)
+stray_fault (EndNode at) = (Unbalanced, at)
+stray_fault (Prop at property) = (Unbalanced, at)
+stray_fault (Nop at) = (Unbalanced, at)
+stray_fault (End at) = (Unbalanced, at)
+stray_fault (Broken at kind) = (kind, at)
 
 -- among the children of a node: a property that follows a child
-abbrev pub stray_child : Token → Fault
-stray_child (Prop at property) = (BadToken, at)
-stray_child (Begin at name) = (Unbalanced, at)
-stray_child (EndNode at) = (Unbalanced, at)
-stray_child (Nop at) = (Unbalanced, at)
-stray_child (End at) = (Unbalanced, at)
-stray_child (Broken at kind) = (kind, at)
+abbrev pub stray_child_fault : Token → Fault
+stray_child_fault (Prop at property) = (BadToken, at)
+stray_child_fault (Begin at name) = (Unbalanced, at)
+stray_child_fault (EndNode at) = (Unbalanced, at)
+stray_child_fault (Nop at) = (Unbalanced, at)
+stray_child_fault (End at) = (Unbalanced, at)
+stray_child_fault (Broken at kind) = (kind, at)
 
 -- where no token is left; tokens never end so
 abbrev pub no_token : Fault
@@ -79,8 +79,8 @@ root_name at read = do
   given (length name == 0) BadName at (Ok name)
 
 -- a node with its properties, and the tokens of its children and its end
-abbrev pub begun : Result (List ℕ) Fault → ℕ → ℕ → List Token → Result (Entry × List Token) Fault
-begun named parent depth ts = do
+abbrev pub node_of : Result (List ℕ) Fault → ℕ → ℕ → List Token → Result (Entry × List Token) Fault
+node_of named parent depth ts = do
   name ← named
   found ← properties nobody ts
   Ok (record { name = name; parent = parent; depth = depth; props = found.0 }, found.1)
@@ -94,11 +94,11 @@ nodes (suc count) next parent depth taken [] = Err no_token
 nodes (suc count) next parent depth taken (EndNode at ∷ ts) = Ok ([], ts)
 nodes (suc count) next parent depth taken (Begin at read ∷ ts) =
     given (nat_le depth 16) TooDeep at (do
-      first ← begun (node_name taken at read) parent depth ts
+      first ← node_of (node_name taken at read) parent depth ts
       below ← nodes count (next + 1) next (depth + 1) nobody first.1
       others ← nodes count (next + 1 + length below.0) parent depth (with_name taken first.0.name) below.1
       Ok (first.0 ∷ (below.0 ++ others.0), others.1))
-nodes (suc count) next parent depth taken (t ∷ ts) = Err (stray_child t)
+nodes (suc count) next parent depth taken (t ∷ ts) = Err (stray_child_fault t)
 
 unfoldable pub children : ℕ → ℕ → ℕ → Names → List Token → Result (List Entry × List Token) Fault
 children next parent depth taken ts = nodes (length ts) next parent depth taken ts
@@ -106,24 +106,24 @@ children next parent depth taken ts = nodes (length ts) next parent depth taken 
 -- ---- the whole
 
 -- the end follows the root
-abbrev pub closed : List Entry → List Token → Result (List Entry) Fault
-closed entries [] = Err no_token
-closed entries (End at ∷ ts) = Ok entries
-closed entries (t ∷ ts) = Err (stray t)
+abbrev pub before_end : List Entry → List Token → Result (List Entry) Fault
+before_end entries [] = Err no_token
+before_end entries (End at ∷ ts) = Ok entries
+before_end entries (t ∷ ts) = Err (stray_fault t)
 
-abbrev pub rooted : List Token → Result (List Entry) Fault
-rooted [] = Err no_token
-rooted (Begin at read ∷ ts) = do
-  root ← begun (root_name at read) 0 1 ts
+abbrev pub nodes_of : List Token → Result (List Entry) Fault
+nodes_of [] = Err no_token
+nodes_of (Begin at read ∷ ts) = do
+  root ← node_of (root_name at read) 0 1 ts
   below ← children 1 0 2 nobody root.1
-  closed (root.0 ∷ below.0) below.1
-rooted (t ∷ ts) = Err (stray t)
+  before_end (root.0 ∷ below.0) below.1
+nodes_of (t ∷ ts) = Err (stray_fault t)
 
 -- the tree of the bytes of a file, or the first fault
 unfoldable pub tree : List ℕ → Result (List Entry) Fault
 tree bytes = do
   layout ← header bytes
-  rooted (tokens (structure_block bytes layout) (strings_block bytes layout) layout.structure)
+  nodes_of (tokens (structure_block bytes layout) (strings_block bytes layout) layout.structure)
 
 -- a tree that the grammar allows: some file has it
 abbrev pub IsAllowed : List Entry → Type 0

@@ -57,6 +57,14 @@ pairs_from bytes at = (totalsize bytes - at) / 16
 abbrev pub reservations_end : List ℕ → Bool
 reservations_end bytes = has_zero_pair (pairs_from bytes (off_mem_rsvmap bytes)) bytes (off_mem_rsvmap bytes)
 
+-- the blocks end before the tree does
+
+abbrev pub structure_fits : List ℕ → Bool
+structure_fits bytes = nat_le (off_dt_struct bytes + size_dt_struct bytes) (totalsize bytes)
+
+abbrev pub strings_fit : List ℕ → Bool
+strings_fit bytes = nat_le (off_dt_strings bytes + size_dt_strings bytes) (totalsize bytes)
+
 -- what the header must say, in the order in which it is looked at
 pub record Rule : Type 0 where
   pub holds : Bool
@@ -80,9 +88,9 @@ file_rules bytes =
 -- of its blocks
 abbrev pub block_rules : List ℕ → List Rule
 block_rules bytes =
-    rule (off_dt_struct bytes % 4 == 0 && nat_le 40 (off_dt_struct bytes) && nat_le (off_dt_struct bytes + size_dt_struct bytes) (totalsize bytes)) BadOffset 8
+    rule (off_dt_struct bytes % 4 == 0 && nat_le 40 (off_dt_struct bytes) && structure_fits bytes) BadOffset 8
     ∷ rule (size_dt_struct bytes % 4 == 0) BadOffset 36
-    ∷ rule (nat_le (off_dt_strings bytes + size_dt_strings bytes) (totalsize bytes)) BadOffset 12
+    ∷ rule (strings_fit bytes) BadOffset 12
     ∷ rule (off_mem_rsvmap bytes % 8 == 0 && reservations_end bytes) BadOffset 16
     ∷ []
 

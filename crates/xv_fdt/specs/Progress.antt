@@ -3,6 +3,7 @@ use Rattle.std.specs.Prelude.{ℕ, List, [], ◌++◌, Option, Some, None, Resul
 use Rattle.std.specs.Ordering.{nat_cmp}
 use Rattle.std.specs.Cmp.Lexicographic.{slice_cmp}
 use Rattle.std.specs.BTreeSet.{contains}
+use Rattle.xv_fdt.specs.declared.blocks.Blocks.{Blocks}
 use Rattle.xv_fdt.specs.declared.fault.FdtKind.{FdtKind}
 use Rattle.xv_fdt.specs.declared.fault.FdtKind.TheVariants.{Short, BadToken, Unbalanced}
 use Rattle.xv_fdt.specs.declared.names.NameSet.{NameSet}
@@ -10,7 +11,8 @@ use Rattle.xv_fdt.specs.declared.token.Mark.{Mark}
 use Rattle.xv_fdt.specs.declared.token.Mark.TheVariants as marks
 use Rattle.xv_fdt.specs.Fault.{Fault, ◌>>=◌}
 use Rattle.xv_fdt.specs.Grammar.{Names}
-use Rattle.xv_fdt.specs.Token.{Token, Begin, name_at, next_of, tokens}
+use Rattle.xv_fdt.specs.Token.{Token, Begin, name_at, property_at, next_of, tokens}
+use Rattle.xv_fdt.specs.Tree.{Property}
 
 -- the names that a set holds, as the test that the grammar asks
 unfoldable pub taken_in : NameSet → Names
@@ -25,9 +27,16 @@ abbrev pub tokens_after : List ℕ → List ℕ → Option ℕ → List Token
 tokens_after block strings None = []
 tokens_after block strings (Some at) = tokens block strings at
 
--- the tokens behind the begin token at a place
-abbrev pub tokens_inside : List ℕ → List ℕ → ℕ → List Token
-tokens_inside block strings at = tokens_after block strings (next_of (Begin at (name_at block at)))
+-- the same in the blocks of a file, and what stands behind a property's and a node's token there
+abbrev pub tokens_in : Blocks → ℕ → List Token
+tokens_in blocks at = tokens blocks.structure.now blocks.strings.now at
+
+abbrev pub property_in : Blocks → ℕ → Result Property FdtKind
+property_in blocks at = property_at blocks.structure.now blocks.strings.now at
+
+abbrev pub tokens_inside : Blocks → ℕ → List Token
+tokens_inside blocks at =
+    tokens_after blocks.structure.now blocks.strings.now (next_of (Begin at (name_at blocks.structure.now at)))
 
 -- the kind of the fault at a mark that nothing allows
 abbrev pub stray_kind : Mark → FdtKind

@@ -76,15 +76,15 @@ unfoldable pub token_at : List ℕ → List ℕ → ℕ → Token
 token_at block strings at = token_of block strings at (mark_at block at)
 
 -- a length with its padding to the next multiple of 4
-abbrev pub padded : ℕ → ℕ
-padded len = (len + 3) / 4 * 4
+abbrev pub padded_len : ℕ → ℕ
+padded_len len = (len + 3) / 4 * 4
 
 -- where the next token stands. None follows the end, or a token that is broken
 abbrev pub next_of : Token → Option ℕ
-next_of (Begin at (Ok name)) = Some (at + 4 + padded (length name + 1))
+next_of (Begin at (Ok name)) = Some (at + 4 + padded_len (length name + 1))
 next_of (Begin at (Err kind)) = None
 next_of (EndNode at) = Some (at + 4)
-next_of (Prop at (Ok property)) = Some (at + 12 + padded (length property.value))
+next_of (Prop at (Ok property)) = Some (at + 12 + padded_len (length property.value))
 next_of (Prop at (Err kind)) = None
 next_of (Nop at) = Some (at + 4)
 next_of (End at) = None

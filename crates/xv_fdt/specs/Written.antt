@@ -2,7 +2,7 @@
 -- (Devicetree Specification v0.4, sections 5.2 to 5.6), one after the other.
 use Rattle.std.specs.Prelude.{ℕ, zero, suc, ◌+◌, ◌-◌, List, [], ◌∷◌, ◌++◌, length, replicate}
 use Rattle.byteorder.specs.Endian.{big_bytes}
-use Rattle.xv_fdt.specs.Token.{padded}
+use Rattle.xv_fdt.specs.Token.{padded_len}
 use Rattle.xv_fdt.specs.Tree.{Property, Entry}
 
 -- a number below 2^32 in 4 bytes
@@ -11,7 +11,7 @@ big_word number = big_bytes 4 number
 
 -- bytes with zeros up to the next multiple of 4
 unfoldable pub with_padding : List ℕ → List ℕ
-with_padding bytes = bytes ++ replicate (padded (length bytes) - length bytes) 0
+with_padding bytes = bytes ++ replicate (padded_len (length bytes) - length bytes) 0
 
 -- ---- strings: the name of each property in order, each with a 0, none shared
 

@@ -20,7 +20,9 @@ pub(crate) struct Blocks<'a> {
 pub(crate) fn name_at(block: &[u8], at: usize) -> Result<&[u8], FdtKind>
     requires { at + 4 ≤ 2 ^ 32 }
     ensures inside { IfOk result (λ name. at + 4 + length name.now < length block.now) }
-    ensures found { MatchResult result (λ name. name_at block.now at ≡ Ok name.now) (λ kind. name_at block.now at ≡ Err kind) }
+    ensures found { MatchResult result
+        (λ name. name_at block.now at ≡ Ok name.now)
+        (λ kind. name_at block.now at ≡ Err kind) }
 {
     match text_from(block, at + 4) {
         Some(name) => Ok(name),
@@ -38,7 +40,9 @@ pub(crate) fn property_at<'a>(
     requires small { length structure.now ≤ 2 ^ 20 }
     requires near { at ≤ length structure.now }
     ensures found { MatchResult result
-        (λ found. property_at structure.now strings.now at ≡ Ok (record { name = found.0.now; value = found.1.now }))
+        (λ found.
+        property_at structure.now strings.now at
+        ≡ Ok (record { name = found.0.now; value = found.1.now }))
         (λ kind. property_at structure.now strings.now at ≡ Err kind) }
     ensures inside { IfOk result (λ found. at + 12 + length (found.1).now ≤ length structure.now) }
 {

@@ -13,7 +13,8 @@ pub enum FdtKind {
     BadVersion,
     /// Something runs past the end of the file or of its block.
     Short,
-    /// A block isn't aligned or doesn't lie in the file, or a property's name doesn't end in the strings.
+    /// A block isn't aligned or doesn't lie in the file, or a property's name doesn't end in the
+    /// strings.
     BadOffset,
     /// A number that is no token, or a property behind a child (5.4).
     BadToken,
@@ -27,8 +28,8 @@ pub enum FdtKind {
     TooBig,
 }
 
-/// Why no tree was read: the first rule that the file breaks, with the offset in the file at which it
-/// does, in bytes; or want of memory.
+/// Why no tree was read: the first rule that the file breaks, with the offset in the file, in
+/// bytes, at which it does; or want of memory.
 #[derive(Clone, Copy, Debug, PartialEq, Eq)]
 pub enum FdtFault {
     At { kind: FdtKind, offset: u32 },

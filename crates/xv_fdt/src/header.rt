@@ -98,8 +98,10 @@ fn check_blocks(bytes: &[u8]) -> Result<(), FdtFault>
     requires least { 40 ≤ length bytes.now }
     requires whole { headers.totalsize bytes.now ≤ length bytes.now }
     ensures exact { Gives (λ _. tt) result (headers.keeps (headers.block_rules bytes.now)) }
-    ensures structure { IfOk result (λ _. headers.off_dt_struct bytes.now + headers.size_dt_struct bytes.now ≤ length bytes.now) }
-    ensures strings { IfOk result (λ _. headers.off_dt_strings bytes.now + headers.size_dt_strings bytes.now ≤ length bytes.now) }
+    ensures structure { IfOk result (λ _.
+        headers.off_dt_struct bytes.now + headers.size_dt_struct bytes.now ≤ length bytes.now) }
+    ensures strings { IfOk result (λ _.
+        headers.off_dt_strings bytes.now + headers.size_dt_strings bytes.now ≤ length bytes.now) }
 {
     let totalsize = word(bytes, 4);
     let structure = word(bytes, 8);
@@ -123,8 +125,10 @@ fn check_blocks(bytes: &[u8]) -> Result<(), FdtFault>
 pub(crate) fn header(bytes: &[u8]) -> Result<Layout, FdtFault>
     ensures exact { Gives (λ layout. layout) result (headers.header bytes.now) }
     ensures small { IfOk result (λ _. length bytes.now ≤ 2 ^ 20) }
-    ensures structure { IfOk result (λ layout. layout.structure + layout.structure_size ≤ length bytes.now) }
-    ensures strings { IfOk result (λ layout. layout.strings + layout.strings_size ≤ length bytes.now) }
+    ensures structure { IfOk result (λ layout.
+        layout.structure + layout.structure_size ≤ length bytes.now) }
+    ensures strings { IfOk result (λ layout.
+        layout.strings + layout.strings_size ≤ length bytes.now) }
 {
     check_file(bytes)?;
     check_blocks(bytes)?;

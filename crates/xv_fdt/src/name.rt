@@ -33,7 +33,8 @@ impl Model for NodeName {
 
     ghost inverse = { λ bytes. record { bytes = padded 63 bytes; len = length bytes } };
 
-    ghost inverse_ok = { λ s padding. Prim.rw (padding.zeros, length-take_padded 63 s.bytes s.len padding) refl };
+    ghost inverse_ok = { λ s padding.
+        Prim.rw (padding.zeros, length-take_padded 63 s.bytes s.len padding) refl };
 }
 
 impl NodeName {

@@ -2,7 +2,7 @@
 ghost use Rattle.std.specs.Prelude.{◌≡◌, ◌+◌, ◌≤◌, ◌<◌, ◌^◌, ◌==◌, nat_le, [], ◌∷◌, ◌++◌, List, IfOk, Ok, length};
 ghost use Rattle.xv_fdt.specs.Fault.{Gives, given};
 ghost use Rattle.xv_fdt.specs.Grammar as grammar;
-ghost use Rattle.xv_fdt.specs.Progress.{taken_in, with_front, tokens_inside, stray_kind, stray_child_kind};
+ghost use Rattle.xv_fdt.specs.Progress.{taken_in, with_front, tokens_in, tokens_inside, stray_kind, stray_child_kind};
 ghost use Rattle.xv_fdt.specs.Token as spec;
 
 use crate::blocks::{Blocks, name_at};
@@ -10,7 +10,7 @@ use crate::fault::{FdtFault, FdtKind, fault};
 use crate::name::{NodeName, short};
 use crate::names::NameSet;
 use crate::properties::properties;
-use crate::token::{Mark, next_token, padded};
+use crate::token::{Mark, next_token, padded_len};
 use crate::tree::Node;
 use std::alloc::Global;
 
@@ -18,7 +18,7 @@ use std::alloc::Global;
 const DEEPEST: u8 = 16;
 
 /// The kind of the fault at a token that nothing allows.
-fn stray(mark: Mark) -> FdtKind
+fn stray_kind(mark: Mark) -> FdtKind
     ensures { result ≡ stray_kind mark }
 {
     match mark {
@@ -29,7 +29,7 @@ fn stray(mark: Mark) -> FdtKind
 }
 
 /// The kind of the fault at a token that may not stand among the children of a node.
-fn stray_child(mark: Mark) -> FdtKind
+fn stray_child_kind(mark: Mark) -> FdtKind
     ensures { result ≡ stray_child_kind mark }
 {
     match mark {
@@ -40,7 +40,7 @@ fn stray_child(mark: Mark) -> FdtKind
 }
 
 /// The node of that name whose properties stand from a place on, and the place behind them.
-fn begun(
+fn node_of(
     alloc: Global,
     blocks: &Blocks<'_>,
     name: NodeName,
@@ -50,8 +50,8 @@ fn begun(
 ) -> Result<(Node, usize), FdtFault>
     requires small { length blocks.now.structure.now ≤ 2 ^ 20 }
     requires near { inside ≤ length blocks.now.structure.now + 3 }
-    ensures exact { Gives (λ found. (found.0, spec.tokens blocks.now.structure.now blocks.now.strings.now found.1)) result
-        (grammar.begun (Ok name) parent depth (spec.tokens blocks.now.structure.now blocks.now.strings.now inside)) }
+    ensures exact { Gives (λ found. (found.0, tokens_in blocks.now found.1)) result
+        (grammar.node_of (Ok name) parent depth (tokens_in blocks.now inside)) }
     ensures forward { IfOk result (λ found. inside ≤ found.1) }
     ensures near { IfOk result (λ found. found.1 ≤ length blocks.now.structure.now + 3) }
 {
@@ -78,11 +78,13 @@ fn child(
     requires small { length blocks.now.structure.now ≤ 2 ^ 20 }
     requires whole { at + 4 ≤ length blocks.now.structure.now }
     requires mark { spec.mark_at blocks.now.structure.now at ≡ Mark.Begin }
-    ensures exact { Gives (λ found. (found.0, spec.tokens blocks.now.structure.now blocks.now.strings.now found.1)) result
+    ensures exact { Gives (λ found. (found.0, tokens_in blocks.now found.1)) result
         (given (nat_le depth 16) FdtKind.TooDeep at
-        (grammar.begun (grammar.node_name (taken_in names.old) at (spec.name_at blocks.now.structure.now at))
-        parent depth (tokens_inside blocks.now.structure.now blocks.now.strings.now at))) }
-    ensures taken { IfOk result (λ found. taken_in names.new ≡ grammar.with_name (taken_in names.old) (found.0).name) }
+        (grammar.node_of
+        (grammar.node_name (taken_in names.old) at (spec.name_at blocks.now.structure.now at))
+        parent depth (tokens_inside blocks.now at))) }
+    ensures taken { IfOk result (λ found.
+        taken_in names.new ≡ grammar.with_name (taken_in names.old) (found.0).name) }
     ensures deep { IfOk result (λ _. depth ≤ 16) }
     ensures forward { IfOk result (λ found. at + 4 ≤ found.1) }
     ensures near { IfOk result (λ found. found.1 ≤ length blocks.now.structure.now + 3) }
@@ -98,13 +100,13 @@ fn child(
         return Err(fault(FdtKind::BadName, at));
     };
     names.add(name)?;
-    begun(
+    node_of(
         alloc,
         blocks,
         name,
         parent,
         depth,
-        at + 4 + padded(bytes.len() + 1),
+        at + 4 + padded_len(bytes.len() + 1),
     )
 }
 
@@ -113,9 +115,9 @@ fn root(alloc: Global, blocks: &Blocks<'_>, at: usize) -> Result<(Node, usize), 
     requires small { length blocks.now.structure.now ≤ 2 ^ 20 }
     requires whole { at + 4 ≤ length blocks.now.structure.now }
     requires mark { spec.mark_at blocks.now.structure.now at ≡ Mark.Begin }
-    ensures exact { Gives (λ found. (found.0, spec.tokens blocks.now.structure.now blocks.now.strings.now found.1)) result
-        (grammar.begun (grammar.root_name at (spec.name_at blocks.now.structure.now at))
-        0 1 (tokens_inside blocks.now.structure.now blocks.now.strings.now at)) }
+    ensures exact { Gives (λ found. (found.0, tokens_in blocks.now found.1)) result
+        (grammar.node_of (grammar.root_name at (spec.name_at blocks.now.structure.now at))
+        0 1 (tokens_inside blocks.now at)) }
     ensures forward { IfOk result (λ found. at + 4 ≤ found.1) }
     ensures near { IfOk result (λ found. found.1 ≤ length blocks.now.structure.now + 3) }
 {
@@ -126,13 +128,13 @@ fn root(alloc: Global, blocks: &Blocks<'_>, at: usize) -> Result<(Node, usize), 
     if !bytes.is_empty() {
         return Err(fault(FdtKind::BadName, at));
     }
-    begun(
+    node_of(
         alloc,
         blocks,
         short(bytes),
         0,
         1,
-        at + 4 + padded(bytes.len() + 1),
+        at + 4 + padded_len(bytes.len() + 1),
     )
 }
 
@@ -150,9 +152,10 @@ fn children(
     requires near { from ≤ length blocks.now.structure.now + 3 }
     requires deep { depth ≤ 17 }
     requires few { length nodes.old.items ≤ from }
-    ensures exact { Gives (λ next. (nodes.new.items, spec.tokens blocks.now.structure.now blocks.now.strings.now next)) result
-        (with_front nodes.old.items (grammar.children (length nodes.old.items) parent depth grammar.nobody
-        (spec.tokens blocks.now.structure.now blocks.now.strings.now from))) }
+    ensures exact { Gives (λ next. (nodes.new.items, tokens_in blocks.now next)) result
+        (with_front nodes.old.items
+        (grammar.children (length nodes.old.items) parent depth grammar.nobody
+        (tokens_in blocks.now from))) }
     ensures few { IfOk result (λ next. length nodes.new.items ≤ next) }
     ensures forward { IfOk result (λ next. from ≤ next) }
     ensures near { IfOk result (λ next. next ≤ length blocks.now.structure.now + 3) }
@@ -169,21 +172,25 @@ fn children(
                 at = children(alloc, blocks, nodes, number, depth + 1, inside)?;
             }
             Mark::EndNode => return Ok(place + 4),
-            _ => return Err(fault(stray_child(mark), place)),
+            _ => return Err(fault(stray_child_kind(mark), place)),
         }
     }
 }
 
 /// The nodes of the tree whose tokens stand from a place on.
-pub(crate) fn rooted(alloc: Global, blocks: &Blocks<'_>, from: usize) -> Result<Vec<Node>, FdtFault>
+pub(crate) fn nodes_of(
+    alloc: Global,
+    blocks: &Blocks<'_>,
+    from: usize,
+) -> Result<Vec<Node>, FdtFault>
     requires small { length blocks.now.structure.now ≤ 2 ^ 20 }
     requires near { from ≤ length blocks.now.structure.now + 3 }
     ensures { Gives (λ nodes. nodes.items) result
-        (grammar.rooted (spec.tokens blocks.now.structure.now blocks.now.strings.now from)) }
+        (grammar.nodes_of (tokens_in blocks.now from)) }
 {
     let (mark, place) = next_token(blocks.structure, from);
     let Mark::Begin = mark else {
-        return Err(fault(stray(mark), place));
+        return Err(fault(stray_kind(mark), place));
     };
     let (first, inside) = root(alloc, blocks, place)?;
     let mut nodes = Vec::new(alloc);
@@ -191,7 +198,7 @@ pub(crate) fn rooted(alloc: Global, blocks: &Blocks<'_>, from: usize) -> Result<
     let next = children(alloc, blocks, &mut nodes, 0, 2, inside)?;
     let (mark, place) = next_token(blocks.structure, next);
     let Mark::End = mark else {
-        return Err(fault(stray(mark), place));
+        return Err(fault(stray_kind(mark), place));
     };
     Ok(nodes)
 }

@@ -2,13 +2,13 @@
 ghost use Rattle.std.specs.Prelude.{◌≡◌, ◌+◌, ◌≤◌, ◌^◌, ◌∷◌, IfOk, length};
 ghost use Rattle.xv_fdt.specs.Fault.{Gives};
 ghost use Rattle.xv_fdt.specs.Grammar as grammar;
-ghost use Rattle.xv_fdt.specs.Progress.{taken_in};
+ghost use Rattle.xv_fdt.specs.Progress.{taken_in, tokens_in, property_in};
 ghost use Rattle.xv_fdt.specs.Token as spec;
 
 use crate::blocks::{Blocks, property_at};
 use crate::fault::{FdtFault, FdtKind, fault};
 use crate::names::NameSet;
-use crate::token::{Mark, next_token, padded};
+use crate::token::{Mark, next_token, padded_len};
 use crate::tree::Prop;
 use std::alloc::Global;
 
@@ -23,12 +23,13 @@ fn property(
     requires near { at ≤ length blocks.now.structure.now }
     requires mark { spec.mark_at blocks.now.structure.now at ≡ Mark.Prop }
     ensures exact { Gives (λ found. found.0) result
-        (grammar.property (taken_in names.old) at (spec.property_at blocks.now.structure.now blocks.now.strings.now at)) }
-    ensures taken { IfOk result (λ found. taken_in names.new ≡ grammar.with_name (taken_in names.old) (found.0).name) }
+        (grammar.property (taken_in names.old) at (property_in blocks.now at)) }
+    ensures taken { IfOk result (λ found.
+        taken_in names.new ≡ grammar.with_name (taken_in names.old) (found.0).name) }
     ensures behind { IfOk result (λ found.
-        spec.tokens blocks.now.structure.now blocks.now.strings.now at
-        ≡ spec.Prop at (spec.property_at blocks.now.structure.now blocks.now.strings.now at)
-        ∷ spec.tokens blocks.now.structure.now blocks.now.strings.now found.1) }
+        tokens_in blocks.now at
+        ≡ spec.Prop at (property_in blocks.now at)
+        ∷ tokens_in blocks.now found.1) }
     ensures forward { IfOk result (λ found. at + 12 ≤ found.1) }
     ensures near { IfOk result (λ found. found.1 ≤ length blocks.now.structure.now + 3) }
 {
@@ -40,7 +41,7 @@ fn property(
         return Err(fault(FdtKind::BadName, at));
     };
     names.add(name)?;
-    let next = at + 12 + padded(value.len());
+    let next = at + 12 + padded_len(value.len());
     let value = Vec::from_slice(alloc, value)?;
     Ok((Prop { name, value }, next))
 }
@@ -53,8 +54,8 @@ pub(crate) fn properties(
 ) -> Result<(Vec<Prop>, usize), FdtFault>
     requires small { length blocks.now.structure.now ≤ 2 ^ 20 }
     requires near { from ≤ length blocks.now.structure.now + 3 }
-    ensures exact { Gives (λ found. ((found.0).items, spec.tokens blocks.now.structure.now blocks.now.strings.now found.1)) result
-        (grammar.properties grammar.nobody (spec.tokens blocks.now.structure.now blocks.now.strings.now from)) }
+    ensures exact { Gives (λ found. ((found.0).items, tokens_in blocks.now found.1)) result
+        (grammar.properties grammar.nobody (tokens_in blocks.now from)) }
     ensures forward { IfOk result (λ found. from ≤ found.1) }
     ensures near { IfOk result (λ found. found.1 ≤ length blocks.now.structure.now + 3) }
 {

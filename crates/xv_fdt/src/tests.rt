@@ -74,7 +74,7 @@ const STRUCTURES: [Row; 31] = [
     // no-operations, and what follows the end
     (&[4, 1, 0, 2, 9], b"", None),
     (&[4, 4, 1, 0, 4, 2, 4, 9, 77], b"", None),
-    // nodes: a name of the root, none of a child, one that has a `/`, twins, and a twin in another node
+    // nodes: a name of the root, none of a child, one with a `/`, twins, and a twin in another node
     (&[1, A, 2, 9], b"", Some((FdtKind::BadName, 56))),
     (&[1, 0, 1, 0, 2, 2, 9], b"", Some((FdtKind::BadName, 64))),
     (
@@ -103,7 +103,7 @@ const STRUCTURES: [Row; 31] = [
         Some((FdtKind::BadToken, 76)),
     ),
     (&[1, 0, 3, 9, 0, 2, 9], b"a\0", Some((FdtKind::Short, 64))),
-    // names of properties: at the end of the strings, past it, cut, empty, twins, twins in two nodes
+    // names of properties: at the strings' end, past it, cut, empty, twins, twins in two nodes
     (&[1, 0, 3, 0, 3, 2, 9], b"ab\0c\0", None),
     (
         &[1, 0, 3, 0, 2, 2, 9],
@@ -172,7 +172,8 @@ fn rows_of_structures_and_headers(rt: HostRuntime) -> Result<(), Fail> {
     check_words(&rt, rt.alloc(), &WORDS)
 }
 
-/// The faults of the first `len` bytes of the least tree, of the whole with that totalsize, and of both.
+/// The faults of the first `len` bytes of the least tree, of the whole with that totalsize, and of
+/// both.
 fn check_cut(rt: &impl Abort, alloc: Global, len: usize) -> Result<(), Fail>
     requires { len < LEAST_LEN }
 {

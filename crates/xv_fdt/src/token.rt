@@ -55,7 +55,8 @@ pub(crate) fn next_token(block: &[u8], from: usize) -> (Mark, usize)
     ensures mark { spec.mark_at block.now result.1 ≡ result.0 }
     ensures solid { result.0 ≢ Mark.Nop }
     ensures whole { result.0 ≢ Mark.Cut → result.1 + 4 ≤ length block.now }
-    ensures same { (strings : List ℕ) → spec.tokens block.now strings result.1 ≡ spec.tokens block.now strings from }
+    ensures same { (strings : List ℕ) →
+        spec.tokens block.now strings result.1 ≡ spec.tokens block.now strings from }
     ensures near { result.1 ≤ length block.now + 3 }
     ensures forward { from ≤ result.1 }
 {
@@ -89,7 +90,8 @@ fn text(bytes: &[u8]) -> Option<&[u8]>
 /// The bytes from a place on up to the first 0, or None where there is no 0.
 pub(crate) fn text_from(bytes: &[u8], at: usize) -> Option<&[u8]>
     ensures inside { IfSome result (λ text. at + length text.now < length bytes.now) }
-    ensures text { option_map (λ (text : Bor (List ℕ)). text.now) result ≡ spec.text (drop at bytes.now) }
+    ensures text { option_map (λ (text : Bor (List ℕ)). text.now) result
+        ≡ spec.text (drop at bytes.now) }
 {
     if bytes.len() < at {
         None
@@ -99,9 +101,9 @@ pub(crate) fn text_from(bytes: &[u8], at: usize) -> Option<&[u8]>
 }
 
 /// The length with padding to the next multiple of 4.
-pub(crate) fn padded(len: usize) -> usize
+pub(crate) fn padded_len(len: usize) -> usize
     requires { len < 2 ^ 63 }
-    ensures padded { result ≡ spec.padded len }
+    ensures padded_len { result ≡ spec.padded_len len }
     ensures least { len ≤ result }
     ensures most { result < len + 4 }
 {

@@ -2,7 +2,8 @@
 use crate::name::NodeName;
 use std::marker::Model;
 
-/// A property of a node: its name, and its value as bytes, whose numbers are big-endian (2.2.4).
+/// A property of a node: its name, and its value as bytes, whose numbers are big-endian
+/// (Devicetree Specification v0.4, section 2.2.4).
 #[derive(Debug, Drop)]
 pub struct Prop {
     pub name: NodeName,
@@ -17,8 +18,8 @@ impl Model for Prop {
     ghost view = { λ p. record { name = p.name; value = p.value.items } };
 }
 
-/// A node (2.2.1). Nodes are numbered from 0 in order of their begin tokens: `parent` is the number of
-/// the node in which it lies, and 0 at the root, whose depth is 1.
+/// A node (2.2.1). Nodes are numbered from 0 in order of their begin tokens: `parent` is the number
+/// of the node in which it lies, and 0 at the root, whose depth is 1.
 #[derive(Debug, Drop)]
 pub struct Node {
     pub name: NodeName,
@@ -32,7 +33,12 @@ impl Model for Node {
 
     ghost Value = { Entry };
 
-    ghost view = { λ n. record { name = n.name; parent = n.parent; depth = n.depth; props = n.props.items } };
+    ghost view = { λ n. record {
+      name = n.name;
+      parent = n.parent;
+      depth = n.depth;
+      props = n.props.items;
+    } };
 }
 
 /// The nodes in order of their begin tokens, the root first. Contracts see the list of them.

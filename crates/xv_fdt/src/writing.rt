@@ -2,7 +2,7 @@
 ghost use Rattle.std.specs.Prelude.{◌≡◌, ◌+◌, ◌-◌, ◌≤◌, ◌<◌, ◌^◌, ◌++◌, ◌∷◌, [], length, replicate, OnOk, IfOk};
 ghost use Rattle.xv_fdt.specs.Written as spec;
 
-use crate::token::padded;
+use crate::token::padded_len;
 use crate::tree::{Node, Prop, Tree};
 use byteorder::{BigEndian, ByteOrder};
 use std::alloc::Global;
@@ -65,7 +65,7 @@ fn put_padded(out: &mut Vec<u8>, bytes: &[u8]) -> Result<(), NoMemory>
     ensures { OnOk result (out.new.items ≡ out.old.items ++ spec.with_padding bytes.now) }
 {
     put(out, bytes)?;
-    put_zeros(out, padded(bytes.len()) - bytes.len())
+    put_zeros(out, padded_len(bytes.len()) - bytes.len())
 }
 
 /// A name and the 0 behind it.
@@ -85,14 +85,16 @@ fn put_begin(out: &mut Vec<u8>, name: &[u8]) -> Result<(), NoMemory>
     put_word(out, BEGIN_NODE)?;
     put_name(out, name)?;
     let len = name.len() + 1;
-    put_zeros(out, padded(len) - len)
+    put_zeros(out, padded_len(len) - len)
 }
 
 /// Puts a property, and its name at the end of the strings.
 #[tactic(auto, unfolding(crate::specs::Written::property_bytes))]
 fn put_property(structure: &mut Vec<u8>, strings: &mut Vec<u8>, prop: &Prop) -> Result<(), NoMemory>
-    ensures structure { OnOk result (structure.new.items ≡ structure.old.items ++ spec.property_bytes (length strings.old.items) prop.now) }
-    ensures strings { OnOk result (strings.new.items ≡ strings.old.items ++ ((prop.now).name ++ (0 ∷ []))) }
+    ensures structure { OnOk result (structure.new.items
+        ≡ structure.old.items ++ spec.property_bytes (length strings.old.items) prop.now) }
+    ensures strings { OnOk result (strings.new.items
+        ≡ strings.old.items ++ ((prop.now).name ++ (0 ∷ []))) }
 {
     put_word(structure, PROP)?;
     put_word(structure, prop.value.len())?;
@@ -108,8 +110,10 @@ fn put_properties(
     strings: &mut Vec<u8>,
     props: &[Prop],
 ) -> Result<(), NoMemory>
-    ensures structure { OnOk result (structure.new.items ≡ structure.old.items ++ spec.properties_bytes (length strings.old.items) props.now) }
-    ensures strings { OnOk result (strings.new.items ≡ strings.old.items ++ spec.names_bytes props.now) }
+    ensures structure { OnOk result (structure.new.items
+        ≡ structure.old.items ++ spec.properties_bytes (length strings.old.items) props.now) }
+    ensures strings { OnOk result (strings.new.items
+        ≡ strings.old.items ++ spec.names_bytes props.now) }
 {
     for prop in props {
         put_property(structure, strings, prop)?;
@@ -126,17 +130,20 @@ fn put_ends(out: &mut Vec<u8>, count: usize) -> Result<(), NoMemory>
     Ok(())
 }
 
-/// Ends the open nodes that a node isn't in, and puts the node with its properties, whose names go to
-/// the end of the strings.
+/// Ends the open nodes that a node isn't in, and puts the node with its properties, whose names go
+/// to the end of the strings.
 fn put_node(
     structure: &mut Vec<u8>,
     strings: &mut Vec<u8>,
     open_nodes: u8,
     node: &Node,
 ) -> Result<(), NoMemory>
-    ensures structure { OnOk result (structure.new.items ≡ structure.old.items ++ (spec.ends (open_nodes + 1 - (node.now).depth)
-        ++ (spec.begin_bytes (node.now).name ++ spec.properties_bytes (length strings.old.items) (node.now).props))) }
-    ensures strings { OnOk result (strings.new.items ≡ strings.old.items ++ spec.names_bytes (node.now).props) }
+    ensures structure { OnOk result (structure.new.items
+        ≡ structure.old.items ++ (spec.ends (open_nodes + 1 - (node.now).depth)
+        ++ (spec.begin_bytes (node.now).name
+        ++ spec.properties_bytes (length strings.old.items) (node.now).props))) }
+    ensures strings { OnOk result (strings.new.items
+        ≡ strings.old.items ++ spec.names_bytes (node.now).props) }
 {
     put_ends(
         structure,
@@ -149,8 +156,10 @@ fn put_node(
 
 /// Puts the nodes and their ends, and the names of their properties at the end of the strings.
 fn put_nodes(structure: &mut Vec<u8>, strings: &mut Vec<u8>, nodes: &[Node]) -> Result<(), NoMemory>
-    ensures structure { OnOk result (structure.new.items ≡ structure.old.items ++ spec.structure_bytes 0 (length strings.old.items) nodes.now) }
-    ensures strings { OnOk result (strings.new.items ≡ strings.old.items ++ spec.strings_bytes nodes.now) }
+    ensures structure { OnOk result (structure.new.items
+        ≡ structure.old.items ++ spec.structure_bytes 0 (length strings.old.items) nodes.now) }
+    ensures strings { OnOk result (strings.new.items
+        ≡ strings.old.items ++ spec.strings_bytes nodes.now) }
 {
     let mut open_nodes: u8 = 0;
     for node in nodes {
@@ -173,7 +182,8 @@ fn put_words(out: &mut Vec<u8>, numbers: &[usize]) -> Result<(), NoMemory>
 
 /// Puts the header for blocks of these sizes. A field keeps the lowest 32 bits, so a sum may wrap.
 fn put_header(out: &mut Vec<u8>, structure: usize, strings: usize) -> Result<(), NoMemory>
-    ensures { OnOk result (out.new.items ≡ out.old.items ++ spec.words_bytes (spec.header_fields structure strings)) }
+    ensures { OnOk result (out.new.items
+        ≡ out.old.items ++ spec.words_bytes (spec.header_fields structure strings)) }
 {
     let end = STRUCTURE.wrapping_add(structure);
     let fields = [
@@ -193,9 +203,9 @@ fn put_header(out: &mut Vec<u8>, structure: usize, strings: usize) -> Result<(),
 }
 
 /// The file of this tree: its header (version 17, last compatible version 16), one pair of zeros as
-/// reservations, its structure, and its strings, none of them shared (Devicetree Specification v0.4,
-/// chapter 5). `read` gives the tree again if some file has it and this one has at most 1,048,576
-/// bytes.
+/// reservations, its structure, and its strings, none of them shared (Devicetree Specification
+/// v0.4, chapter 5). `read` gives the tree again if some file has it and this one has at most
+/// 1,048,576 bytes.
 #[tactic(auto, unfolding(crate::specs::Written::written))]
 pub fn write(alloc: Global, tree: &Tree) -> Result<Vec<u8>, NoMemory>
     ensures { IfOk result (λ bytes. bytes.items ≡ spec.written tree.now) }

@@ -16,7 +16,7 @@ returns-in_err-node-in-Begin-clause-exact t c =
     let place = c.next_token-mark.result.1 in
     rw (p.1, p.2)
     (children-child_end c.in_err-node-in-Begin.field-0.0 c.loop-nodes.nodes.items c.args.parent c.args.depth (taken_in c.loop-nodes.names) place (spec.name_at structure place)
-    (spec.tokens structure strings c.loop-nodes.at) (spec.tokens structure strings place) (tokens_inside structure strings place) _
+    (spec.tokens structure strings c.loop-nodes.at) (spec.tokens structure strings place) (tokens_inside c.args.blocks.now place) _
     (c.next_token-mark.ensures.same strings)
     (tokens-at structure strings place _ (c.next_token-mark.ensures.mark ∙ c.in-Begin.is))
     c.in_err-node-in-Begin.ensures.exact c.loop-nodes.invariant.so_far)
@@ -32,7 +32,7 @@ returns-in_err-at-in-Begin-clause-exact t c =
     let below = c.in_err-at-in-Begin.ensures.exact in
     rw (p.1, p.2)
     (children-below_end e c.loop-nodes.nodes.items c.args.parent c.args.depth (taken_in c.loop-nodes.names) place (spec.name_at structure place) c.in_ok-node-in-Begin.node
-    (spec.tokens structure strings c.loop-nodes.at) (spec.tokens structure strings place) (tokens_inside structure strings place) inside _
+    (spec.tokens structure strings c.loop-nodes.at) (spec.tokens structure strings place) (tokens_inside c.args.blocks.now place) inside _
     (c.next_token-mark.ensures.same strings)
     (tokens-at structure strings place _ (c.next_token-mark.ensures.mark ∙ c.in-Begin.is))
     c.in_ok-node-in-Begin.ensures.exact
@@ -57,7 +57,7 @@ loop-nodes-preserved t c =
       few = c.in_ok-at-in-Begin.ensures.few;
       so_far =
           children-more c.loop-nodes.nodes.items now c.args.parent c.args.depth (taken_in c.loop-nodes.names) (taken_in c.child.new.names) place (spec.name_at structure place) c.in_ok-node-in-Begin.node
-          (spec.tokens structure strings c.loop-nodes.at) (spec.tokens structure strings place) (tokens_inside structure strings place) inside next _
+          (spec.tokens structure strings c.loop-nodes.at) (spec.tokens structure strings place) (tokens_inside c.args.blocks.now place) inside next _
           (c.next_token-mark.ensures.same strings)
           (tokens-at structure strings place _ (c.next_token-mark.ensures.mark ∙ c.in-Begin.is))
           c.in_ok-node-in-Begin.ensures.exact c.in_ok-node-in-Begin.ensures.taken
@@ -88,7 +88,7 @@ returns-in_default t c =
     c.next_token-mark.ensures.mark c.in_default.not-Begin c.in_default.not-EndNode c.next_token-mark.ensures.solid
     (c.next_token-mark.ensures.same strings) c.loop-nodes.invariant.so_far in
     record {
-      exact = rw (c.fault.ensures, c.stray_child.ensures) stray;
+      exact = rw (c.fault.ensures, c.stray_child_kind.ensures) stray;
       few = tt;
       forward = tt;
       near = tt;
