@@ -16,9 +16,9 @@ mod tests;
 use xv_bus::{Access, Width};
 use xv_isa::{Insn, Op, op_of};
 
-/// The access to a device that the instruction makes, where the integer registers are `x`: the width
-/// of a load, or the width and the value of a store, cut to its bytes. None where the instruction is
-/// no plain load or store; LR, SC and AMOs aren't.
+/// The access to a device that the instruction makes, where the integer registers are `x`: the
+/// width of a load, or the width and the value of a store, cut to its bytes. None where the
+/// instruction is no plain load or store; LR, SC and AMOs aren't.
 #[tactic(auto, unfolding(crate::specs::Emulation::access_of, xv_isa::specs::Effects::effect_of))]
 pub fn emulate(insn: &Insn, x: &[u64; 32]) -> Option<Access>
     requires { InRange insn.now }

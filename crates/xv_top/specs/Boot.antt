@@ -1,5 +1,6 @@
 -- What stands at each end of the program.
-use Rattle.std.specs.Prelude.{◌≡◌, ℕ, ◌+◌, ◌≤◌, ◌⊎◌, List, [], ◌∷◌, length, take, Option, Some, None, option_map, codes}
+use Rattle.std.specs.Prelude.{◌≡◌, ℕ, ◌+◌, ◌≤◌, ◌⊎◌, List, [], ◌∷◌, length, take, Option, Some,
+  None, option_map, codes}
 use Rattle.xv_base.specs.Fault.{Rose}
 use Rattle.xv_outside.specs.Outside.{taken_with, left_after, TookFront}
 use Rattle.xv_mem.specs.Bytes.{range}
@@ -45,7 +46,8 @@ memory_from at (r ∷ rs) bytes = range bytes at r.size ∷ memory_from (at + r.
 -- host memory holds the memory of each guest's lone machine
 abbrev pub HoldsWorld : List ℕ → List LiveGuest → Type 0
 HoldsWorld bytes [] = Unit {0}
-HoldsWorld bytes (g ∷ gs) = (g.machine.memory ≡ memory_from host_base g.plan.regions bytes) × HoldsWorld bytes gs
+HoldsWorld bytes (g ∷ gs) = (g.machine.memory ≡ memory_from host_base g.plan.regions bytes)
+  × HoldsWorld bytes gs
 
 -- the script is what the source had, where it tells its bytes
 abbrev pub IsScriptOf : Option (List ℕ) → List ℕ → Type 0
@@ -56,9 +58,10 @@ IsScriptOf (Some bytes) script = bytes ≡ script
 abbrev pub emptied : Option (List ℕ) → Option (List ℕ)
 emptied left = option_map (λ bytes. []) left
 
--- All commands were run from a world on: the answers to them were taken and nothing else, and the hart took at
--- least their lone steps.
-pub record AllRan (cs : List Command) (before after : World) (taken_old taken_new : Option (List ℕ)) (machine_old machine_new : Machine) : Type 0 where
+-- All commands were run from a world on: the answers to them were taken and nothing else, and the
+-- hart took at least their lone steps.
+pub record AllRan (cs : List Command) (before after : World) (taken_old taken_new : Option (List ℕ))
+    (machine_old machine_new : Machine) : Type 0 where
   pub taken : taken_new ≡ taken_with taken_old (answers before cs)
   pub world : after ≡ world_after before cs
   pub work : work_after before cs ≤ taken_by machine_new.hart
@@ -66,31 +69,36 @@ pub record AllRan (cs : List Command) (before after : World) (taken_old taken_ne
   pub area : machine_new.area ≡ machine_old.area
 
 -- The sink failed at one of the answers, and took a front of them.
-pub record IsStopped (cs : List Command) (before : World) (taken_old taken_new : Option (List ℕ)) (faults_old faults_new : ℕ) : Type 0 where
+pub record IsStopped (cs : List Command) (before : World) (taken_old taken_new : Option (List ℕ))
+    (faults_old faults_new : ℕ) : Type 0 where
   pub front : TookFront taken_old taken_new (answers before cs)
   pub cause : Rose faults_old faults_new
 
--- All commands of the script were run: the answers to them were taken and nothing else, the machine of
--- each guest in the world is the replay of its own journal, and the hart has stepped and host memory holds
--- what the world says. No part of host memory is reserved.
-pub record IsServed (mib : ℕ) (script : List ℕ) (taken_old taken_new : Option (List ℕ)) (machine : Machine) : Type 0 where
+-- All commands of the script were run: the answers to them were taken and nothing else, the machine
+-- of each guest in the world is the replay of its own journal, and the hart has stepped and host
+-- memory holds what the world says. No part of host memory is reserved.
+pub record IsServed (mib : ℕ) (script : List ℕ) (taken_old taken_new : Option (List ℕ))
+    (machine : Machine) : Type 0 where
   pub cs : List Command
   pub grammar : commands script ≡ Some cs
   pub taken : taken_new ≡ taken_with taken_old (transcript mib script)
   pub size : length machine.mem ≡ memory_size mib
   pub area : machine.area ≡ area_of mib 0
   pub memory : HoldsWorld machine.mem (world_after (first_world (pool_frames mib)) cs).guests
-  pub journals : AreReplayed (entries_by (first_world (pool_frames mib)) cs) (world_after (first_world (pool_frames mib)) cs).guests
+  pub journals : AreReplayed (entries_by (first_world (pool_frames mib)) cs)
+    (world_after (first_world (pool_frames mib)) cs).guests
   pub stepped : work_after (first_world (pool_frames mib)) cs ≤ taken_by machine.hart
 
 -- The script was read to its end and served.
-pub record IsRun (mib : ℕ) (left_old left_new taken_old taken_new : Option (List ℕ)) (machine : Machine) : Type 0 where
+pub record IsRun (mib : ℕ) (left_old left_new taken_old taken_new : Option (List ℕ))
+    (machine : Machine) : Type 0 where
   pub script : List ℕ
   pub told : IsScriptOf left_old script
   pub left : left_new ≡ emptied left_old
   pub served : IsServed mib script taken_old taken_new machine
 
--- The script was read to its end or to the limit and refused: its one line was taken and nothing else.
+-- The script was read to its end or to the limit and refused: its one line was taken and nothing
+-- else.
 pub record IsRefused (left_old left_new taken_old taken_new : Option (List ℕ)) : Type 0 where
   pub script : List ℕ
   pub told : IsScriptOf left_old script
@@ -99,7 +107,8 @@ pub record IsRefused (left_old left_new taken_old taken_new : Option (List ℕ))
   pub taken : taken_new ≡ taken_with taken_old script_text
 
 -- The sink failed, and took a front of what the script gives.
-pub record IsCutShort (mib : ℕ) (left_old taken_old taken_new : Option (List ℕ)) (faults_old faults_new : ℕ) : Type 0 where
+pub record IsCutShort (mib : ℕ) (left_old taken_old taken_new : Option (List ℕ))
+    (faults_old faults_new : ℕ) : Type 0 where
   pub script : List ℕ
   pub told : IsScriptOf left_old script
   pub taken : TookFront taken_old taken_new (transcript mib script)

@@ -1,5 +1,6 @@
 -- What the guest in the program is: a lone machine, over host memory.
-use Rattle.std.specs.Prelude.{ℕ, ◌≡◌, ◌+◌, ◌-◌, ◌*◌, ◌^◌, ◌<◌, ◌≤◌, List, [], ◌∷◌, ◌++◌, length, Option, Some, None}
+use Rattle.std.specs.Prelude.{ℕ, ◌≡◌, ◌+◌, ◌-◌, ◌*◌, ◌^◌, ◌<◌, ◌≤◌, List, [], ◌∷◌, ◌++◌, length,
+  Option, Some, None}
 use Rattle.std.specs.List.{All}
 use Rattle.xv_mem.specs.Bytes.{range}
 use Rattle.xv_csr.specs.Fields.{IsInstructionAddress}
@@ -49,11 +50,13 @@ host_end g = host_base + 4096 * g.pages
 
 -- a guest at its create
 abbrev pub new_guest : List ℕ → ℕ → ℕ → Guest
-new_guest name pages clock = record { name = name; pages = pages; view = reset_vcpu flat_base; state = Reset; birth = clock }
+new_guest name pages clock = record { name = name; pages = pages; view = reset_vcpu flat_base;
+  state = Reset; birth = clock }
 
 -- ---- its VCPU on the hart
 
--- the registers that the hart has when the guest's turn begins, at guest time t: no reservation is held
+-- the registers that the hart has when the guest's turn begins, at guest time t: no reservation is
+-- held
 abbrev pub regs_of_guest : Guest → (t : ℕ) → Regs
 regs_of_guest g t = record {
   x = g.view.x;
@@ -101,17 +104,19 @@ module _ (g : Guest) (clock : ℕ) (bytes : List ℕ) where
   abbrev pub turn_begun : List Core
   turn_begun = turns.visited (plan_of g) 0 (time_of g clock) (lone_of g bytes)
 
--- the turn at guest time t from these host bytes on has come to its end with this on the hart, in host memory
--- and in the trail
-pub record IsTurned (g : Guest) (t : ℕ) (first : List ℕ) (r : Regs) (bytes : List ℕ) (trail : List Regs) (state : HartState) : Type 0 where
-  pub on_hart : on_hart_of g r bytes state ≡ (turns.whole_turn (plan_of g) 0 t (lone_of g first)).on_hart
+-- the turn at guest time t from these host bytes on has come to its end with this on the hart, in
+-- host memory and in the trail
+pub record IsTurned (g : Guest) (t : ℕ) (first : List ℕ) (r : Regs) (bytes : List ℕ)
+    (trail : List Regs) (state : HartState) : Type 0 where
+  pub on_hart : on_hart_of g r bytes state
+    ≡ (turns.whole_turn (plan_of g) 0 t (lone_of g first)).on_hart
   pub onward : On ≡ (turns.whole_turn (plan_of g) 0 t (lone_of g first)).onward
   pub pieces : IsTrail core_of (turns.whole_turn (plan_of g) 0 t (lone_of g first)).begun trail
 
 -- ---- what it needs of host memory
 
--- the guest's memory lies in a host memory of so many bytes, its pc is an instruction's address, and its CSRs
--- hold what writes keep
+-- the guest's memory lies in a host memory of so many bytes, its pc is an instruction's address,
+-- and its CSRs hold what writes keep
 pub record IsPlaced (g : Guest) (size : ℕ) : Type 0 where
   pub some : 0 < g.pages
   pub pages : host_end g ≤ size
@@ -130,7 +135,8 @@ pub record IsOnHart (g : Guest) (t : ℕ) (r : Regs) : Type 0 where
   pub time : r.time ≡ t
   pub reserved : ReservedInside g r.held
 
--- the trail got one more piece, of a lone step that began with these registers, through the guest's window alone
+-- the trail got one more piece, of a lone step that began with these registers, through the guest's
+-- window alone
 pub record Grows (g : Guest) (r : Regs) (before after : List Regs) : Type 0 where
   pub piece : List Regs
   pub grown : after ≡ before ++ piece

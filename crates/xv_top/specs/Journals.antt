@@ -1,4 +1,5 @@
--- The journal of each guest: what happened to it since its last create, and nothing of any other guest.
+-- The journal of each guest: what happened to it since its last create, and nothing of any other
+-- guest.
 use Rattle.std.specs.Prelude.{◌≡◌, if◌then◌else◌, List, [], ◌∷◌, ◌++◌, ℕ, Some}
 use Rattle.std.specs.Str.{bytes_eq}
 use Rattle.xv_lone.specs.Journal.{Entry, extended, replay}
@@ -9,7 +10,8 @@ use Rattle.xv_top.specs.Answer.{answer}
 -- a guest's journal goes on with the entries of its name
 abbrev pub journal_from : List ℕ → List Entry → List GuestEntry → List Entry
 journal_from name journal [] = journal
-journal_from name journal (e ∷ es) = journal_from name (if bytes_eq name e.name then extended journal e.entry else journal) es
+journal_from name journal (e ∷ es) =
+  journal_from name (if bytes_eq name e.name then extended journal e.entry else journal) es
 
 -- the journal of the guest of that name, among the entries of all guests
 unfoldable pub journal_of : List ℕ → List GuestEntry → List Entry
@@ -23,4 +25,5 @@ entries_by w (c ∷ cs) = (answer w c).entries ++ entries_by (answer w c).world 
 -- each guest's machine is the replay of its own journal
 abbrev pub AreReplayed : List GuestEntry → List LiveGuest → Type 0
 AreReplayed es [] = Unit {0}
-AreReplayed es (g ∷ gs) = (replay g.plan (journal_of g.name es) ≡ Some g.machine) × AreReplayed es gs
+AreReplayed es (g ∷ gs) = (replay g.plan (journal_of g.name es) ≡ Some g.machine)
+  × AreReplayed es gs

@@ -1,4 +1,5 @@
--- Where things lie in host memory: the root tables of 16 guests first, and behind them what guests may take.
+-- Where things lie in host memory: the root tables of 16 guests first, and behind them what guests
+-- may take.
 use Rattle.std.specs.Prelude.{ℕ, ◌≡◌, ◌-◌, ◌*◌, ◌≤◌}
 
 -- the bytes of a frame

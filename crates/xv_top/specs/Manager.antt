@@ -1,5 +1,6 @@
 -- What the manager in the program is: a world, over host memory.
-use Rattle.std.specs.Prelude.{ℕ, ◌≡◌, ◌+◌, ◌*◌, ◌^◌, ◌<◌, ◌≤◌, List, [], ◌∷◌, length, replicate, Bool, if◌then◌else◌, Option, Some, None}
+use Rattle.std.specs.Prelude.{ℕ, ◌≡◌, ◌+◌, ◌*◌, ◌^◌, ◌<◌, ◌≤◌, List, [], ◌∷◌, length, replicate,
+  Bool, if◌then◌else◌, Option, Some, None}
 use Rattle.xv_top.specs.declared.guest.Guest.{Guest}
 use Rattle.xv_top.specs.declared.manager.Manager.{Manager}
 use Rattle.xv_top.specs.World.{LiveGuest, World, GuestEntry, RunSoFar, most_turns, one_turn, pick}
@@ -17,7 +18,8 @@ guests_of (Some g) bytes = live_guest g bytes ∷ []
 
 -- the world that the manager keeps, over these host bytes
 abbrev pub world_of : Manager → List ℕ → World
-world_of m bytes = record { pool = m.pool; clock = m.clock; tick = m.tick; turns = m.turns; guests = guests_of m.guest bytes }
+world_of m bytes = record { pool = m.pool; clock = m.clock; tick = m.tick; turns = m.turns;
+  guests = guests_of m.guest bytes }
 
 -- what an answer is: this text, and this world
 pub record Gives (a : Answer) (printed : List ℕ) (after : World) : Type 0 where
@@ -41,8 +43,8 @@ abbrev pub memory_end : Option Guest → ℕ
 memory_end None = host_base
 memory_end (Some g) = host_end g
 
--- what an answer leaves of host memory: all but the guest's memory, and all of it where no journal got an entry,
--- as none does of a command that is refused
+-- what an answer leaves of host memory: all but the guest's memory, and all of it where no journal
+-- got an entry, as none does of a command that is refused
 pub record Keeps (a : Answer) (m : Manager) (before after : List ℕ) : Type 0 where
   pub outside : SameElsewhere (memory_end m.guest) before after
   pub all : a.entries ≡ [] → after ≡ before
@@ -56,13 +58,15 @@ abbrev pub going : World → ℕ → ℕ → List GuestEntry → RunSoFar
 going w idle work entries = record { world = w; idle = idle; work = work; entries = entries }
 
 -- the turn that a run makes after so many idle turns and lone steps, by what the manager says of it
-pub record IsTurn (before after : World) (is_idle : Bool) (taken idled worked : ℕ) (earlier : List GuestEntry) : Type 0 where
+pub record IsTurn (before after : World) (is_idle : Bool) (taken idled worked : ℕ)
+    (earlier : List GuestEntry) : Type 0 where
   pub world : (one_turn (going before idled worked earlier) (pick before)).world ≡ after
-  pub idle : (one_turn (going before idled worked earlier) (pick before)).idle ≡ idled + idle_of is_idle
+  pub idle : (one_turn (going before idled worked earlier) (pick before)).idle
+    ≡ idled + idle_of is_idle
   pub work : (one_turn (going before idled worked earlier) (pick before)).work ≤ worked + taken
 
--- what the manager says of a whole run: the world, its idle turns, and that the hart took at least its lone
--- steps
+-- what the manager says of a whole run: the world, its idle turns, and that the hart took at least
+-- its lone steps
 pub record IsRunEnd (run : RunSoFar) (after : World) (idled taken_old taken_new : ℕ) : Type 0 where
   pub world : run.world ≡ after
   pub idle : run.idle ≡ idled

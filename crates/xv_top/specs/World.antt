@@ -1,6 +1,7 @@
 -- The world: the clock, the scheduler's counts, and the lone machines of the live guests. It has no
 -- host memory and no hart.
-use Rattle.std.specs.Prelude.{ℕ, zero, suc, ◌+◌, ◌-◌, ◌%◌, ◌^◌, Bool, if◌then◌else◌, List, [], ◌∷◌, ◌++◌, map, find, sum_by, Option, Some, None}
+use Rattle.std.specs.Prelude.{ℕ, zero, suc, ◌+◌, ◌-◌, ◌%◌, ◌^◌, Bool, if◌then◌else◌, List, [], ◌∷◌,
+  ◌++◌, map, find, sum_by, Option, Some, None}
 use Rattle.std.specs.Str.{bytes_eq}
 use Rattle.xv_lone.specs.Plan.{Plan, need}
 use Rattle.xv_lone.specs.Machine.{Machine, guest_time}
@@ -13,8 +14,8 @@ pub record LiveGuest : Type 0 where
   pub plan : Plan
   pub machine : Machine
 
--- pool is the number of frames that guests may take, turns that of the turns so far; guests stand in
--- order of creation
+-- pool is the number of frames that guests may take, turns that of the turns so far; guests stand
+-- in order of creation
 pub record World : Type 0 where
   pub pool : ℕ
   pub clock : ℕ
@@ -67,8 +68,8 @@ pub record GuestEntry : Type 0 where
 abbrev pub change_entry : List ℕ → Change → GuestEntry
 change_entry name change = record { name = name; entry = Changed change }
 
--- a run of turns so far: the world, its idle turns, the lone steps that were made, and the entries that journals
--- got
+-- a run of turns so far: the world, its idle turns, the lone steps that were made, and the entries
+-- that journals got
 pub record RunSoFar : Type 0 where
   pub world : World
   pub idle : ℕ

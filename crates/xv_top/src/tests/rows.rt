@@ -1,6 +1,6 @@
 //! Scripts of one run, and their transcripts. The numbers of the transcripts come from the tables
-//! of the standards, worked out beside the program; many more of the kind stand in rows/, and are run
-//! by the built program.
+//! of the standards, worked out beside the program; many more of the kind stand in rows/, and are
+//! run by the built program.
 
 /// A script of one run, and the parts of its transcript.
 pub struct Row {
