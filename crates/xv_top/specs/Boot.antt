@@ -1,6 +1,6 @@
 -- What stands at each end of the program.
-use Rattle.std.specs.Prelude.{◌≡◌, ℕ, ◌+◌, ◌≤◌, ◌⊎◌, List, [], ◌∷◌, length, take, Option, Some,
-  None, option_map, codes}
+use Rattle.std.specs.Prelude.{◌≡◌, ℕ, ◌+◌, ◌≤◌, ◌⊎◌, List, [], ◌∷◌, length, take, Option, Some}
+use Rattle.std.specs.Prelude.{None, option_map, codes}
 use Rattle.xv_base.specs.Fault.{Rose}
 use Rattle.xv_outside.specs.Outside.{taken_with, left_after, TookFront}
 use Rattle.xv_mem.specs.Bytes.{range}
@@ -47,7 +47,7 @@ memory_from at (r ∷ rs) bytes = range bytes at r.size ∷ memory_from (at + r.
 abbrev pub HoldsWorld : List ℕ → List LiveGuest → Type 0
 HoldsWorld bytes [] = Unit {0}
 HoldsWorld bytes (g ∷ gs) = (g.machine.memory ≡ memory_from host_base g.plan.regions bytes)
-  × HoldsWorld bytes gs
+    × HoldsWorld bytes gs
 
 -- the script is what the source had, where it tells its bytes
 abbrev pub IsScriptOf : Option (List ℕ) → List ℕ → Type 0
@@ -86,7 +86,7 @@ pub record IsServed (mib : ℕ) (script : List ℕ) (taken_old taken_new : Optio
   pub area : machine.area ≡ area_of mib 0
   pub memory : HoldsWorld machine.mem (world_after (first_world (pool_frames mib)) cs).guests
   pub journals : AreReplayed (entries_by (first_world (pool_frames mib)) cs)
-    (world_after (first_world (pool_frames mib)) cs).guests
+      (world_after (first_world (pool_frames mib)) cs).guests
   pub stepped : work_after (first_world (pool_frames mib)) cs ≤ taken_by machine.hart
 
 -- The script was read to its end and served.

@@ -1,6 +1,6 @@
 -- What the guest in the program is: a lone machine, over host memory.
-use Rattle.std.specs.Prelude.{ℕ, ◌≡◌, ◌+◌, ◌-◌, ◌*◌, ◌^◌, ◌<◌, ◌≤◌, List, [], ◌∷◌, ◌++◌, length,
-  Option, Some, None}
+use Rattle.std.specs.Prelude.{ℕ, ◌≡◌, ◌+◌, ◌-◌, ◌*◌, ◌^◌, ◌<◌, ◌≤◌, List, [], ◌∷◌, ◌++◌, length}
+use Rattle.std.specs.Prelude.{Option, Some, None}
 use Rattle.std.specs.List.{All}
 use Rattle.xv_mem.specs.Bytes.{range}
 use Rattle.xv_csr.specs.Fields.{IsInstructionAddress}
@@ -50,8 +50,13 @@ host_end g = host_base + 4096 * g.pages
 
 -- a guest at its create
 abbrev pub new_guest : List ℕ → ℕ → ℕ → Guest
-new_guest name pages clock = record { name = name; pages = pages; view = reset_vcpu flat_base;
-  state = Reset; birth = clock }
+new_guest name pages clock = record {
+  name = name;
+  pages = pages;
+  view = reset_vcpu flat_base;
+  state = Reset;
+  birth = clock;
+}
 
 -- ---- its VCPU on the hart
 
@@ -109,7 +114,7 @@ module _ (g : Guest) (clock : ℕ) (bytes : List ℕ) where
 pub record IsTurned (g : Guest) (t : ℕ) (first : List ℕ) (r : Regs) (bytes : List ℕ)
     (trail : List Regs) (state : HartState) : Type 0 where
   pub on_hart : on_hart_of g r bytes state
-    ≡ (turns.whole_turn (plan_of g) 0 t (lone_of g first)).on_hart
+      ≡ (turns.whole_turn (plan_of g) 0 t (lone_of g first)).on_hart
   pub onward : On ≡ (turns.whole_turn (plan_of g) 0 t (lone_of g first)).onward
   pub pieces : IsTrail core_of (turns.whole_turn (plan_of g) 0 t (lone_of g first)).begun trail
 

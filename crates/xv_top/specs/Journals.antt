@@ -11,7 +11,7 @@ use Rattle.xv_top.specs.Answer.{answer}
 abbrev pub journal_from : List ℕ → List Entry → List GuestEntry → List Entry
 journal_from name journal [] = journal
 journal_from name journal (e ∷ es) =
-  journal_from name (if bytes_eq name e.name then extended journal e.entry else journal) es
+    journal_from name (if bytes_eq name e.name then extended journal e.entry else journal) es
 
 -- the journal of the guest of that name, among the entries of all guests
 unfoldable pub journal_of : List ℕ → List GuestEntry → List Entry
@@ -26,4 +26,4 @@ entries_by w (c ∷ cs) = (answer w c).entries ++ entries_by (answer w c).world 
 abbrev pub AreReplayed : List GuestEntry → List LiveGuest → Type 0
 AreReplayed es [] = Unit {0}
 AreReplayed es (g ∷ gs) = (replay g.plan (journal_of g.name es) ≡ Some g.machine)
-  × AreReplayed es gs
+    × AreReplayed es gs

@@ -1,6 +1,6 @@
 -- What the manager in the program is: a world, over host memory.
-use Rattle.std.specs.Prelude.{ℕ, ◌≡◌, ◌+◌, ◌*◌, ◌^◌, ◌<◌, ◌≤◌, List, [], ◌∷◌, length, replicate,
-  Bool, if◌then◌else◌, Option, Some, None}
+use Rattle.std.specs.Prelude.{ℕ, ◌≡◌, ◌+◌, ◌*◌, ◌^◌, ◌<◌, ◌≤◌, List, [], ◌∷◌, length, replicate}
+use Rattle.std.specs.Prelude.{Bool, if◌then◌else◌, Option, Some, None}
 use Rattle.xv_top.specs.declared.guest.Guest.{Guest}
 use Rattle.xv_top.specs.declared.manager.Manager.{Manager}
 use Rattle.xv_top.specs.World.{LiveGuest, World, GuestEntry, RunSoFar, most_turns, one_turn, pick}
@@ -18,8 +18,13 @@ guests_of (Some g) bytes = live_guest g bytes ∷ []
 
 -- the world that the manager keeps, over these host bytes
 abbrev pub world_of : Manager → List ℕ → World
-world_of m bytes = record { pool = m.pool; clock = m.clock; tick = m.tick; turns = m.turns;
-  guests = guests_of m.guest bytes }
+world_of m bytes = record {
+  pool = m.pool;
+  clock = m.clock;
+  tick = m.tick;
+  turns = m.turns;
+  guests = guests_of m.guest bytes;
+}
 
 -- what an answer is: this text, and this world
 pub record Gives (a : Answer) (printed : List ℕ) (after : World) : Type 0 where
@@ -62,7 +67,7 @@ pub record IsTurn (before after : World) (is_idle : Bool) (taken idled worked : 
     (earlier : List GuestEntry) : Type 0 where
   pub world : (one_turn (going before idled worked earlier) (pick before)).world ≡ after
   pub idle : (one_turn (going before idled worked earlier) (pick before)).idle
-    ≡ idled + idle_of is_idle
+      ≡ idled + idle_of is_idle
   pub work : (one_turn (going before idled worked earlier) (pick before)).work ≤ worked + taken
 
 -- what the manager says of a whole run: the world, its idle turns, and that the hart took at least

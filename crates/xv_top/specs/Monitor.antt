@@ -2,8 +2,8 @@
 -- left.
 use Rattle.std.specs.Prelude.{ℕ, ◌==◌, if◌then◌else◌}
 use Rattle.xv_isa.specs.Length.{next_pc}
-use Rattle.xv_csr.specs.Cause.{environment_call_from_vs, virtual_instruction,
-  instruction_guest_page_fault, load_guest_page_fault}
+use Rattle.xv_csr.specs.Cause.{environment_call_from_vs, virtual_instruction}
+use Rattle.xv_csr.specs.Cause.{instruction_guest_page_fault, load_guest_page_fault}
 use Rattle.xv_pte.specs.declared.access.Kind3.TheVariants.{Fetch, Load, Store}
 use Rattle.xv_pte.specs.declared.access.Kind3.{Kind3}
 use Rattle.xv_hart.specs.declared.exit.HTrap.{HTrap}

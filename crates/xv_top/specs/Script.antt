@@ -1,6 +1,6 @@
 -- The scripts that are built: one guest of plain RAM is made, poked, kicked, run and shown.
-use Rattle.std.specs.Prelude.{ℕ, ◌≤◌, ◌==◌, Bool, ◌&&◌, List, [], ◌∷◌, length, nat_le,
-  if◌then◌else◌, Option, Some, None, option_and_then, codes}
+use Rattle.std.specs.Prelude.{ℕ, ◌≤◌, ◌==◌, Bool, ◌&&◌, List, [], ◌∷◌, length, nat_le}
+use Rattle.std.specs.Prelude.{if◌then◌else◌, Option, Some, None, option_and_then, codes}
 use Rattle.std.specs.List.{slice_split}
 use Rattle.std.specs.Str.{bytes_eq}
 use Rattle.xv_base.specs.Name.{is_guest_name}
@@ -87,7 +87,7 @@ run_line _ = None
 unfoldable pub regs_line : List ℕ → List (List ℕ) → Option Command
 regs_line name (guest ∷ regs ∷ word ∷ vcpu ∷ []) =
     if is_of_guest (codes "regs") name guest regs word
-      then (if bytes_eq vcpu (codes "0") then Some (Regs name 0) else None)
+    then (if bytes_eq vcpu (codes "0") then Some (Regs name 0) else None)
     else None
 regs_line name _ = None
 

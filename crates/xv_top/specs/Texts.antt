@@ -1,6 +1,6 @@
 -- The texts of the answers.
-use Rattle.std.specs.Prelude.{ℕ, zero, suc, ◌%◌, ◌==◌, Bool, true, false, if◌then◌else◌, List, [],
-  ◌∷◌, ◌++◌, slice_index, decimal, codes}
+use Rattle.std.specs.Prelude.{ℕ, zero, suc, ◌%◌, ◌==◌, Bool, true, false, if◌then◌else◌, List, []}
+use Rattle.std.specs.Prelude.{◌∷◌, ◌++◌, slice_index, decimal, codes}
 use Rattle.xv_base.specs.Text.{hex16}
 use Rattle.xv_csr.specs.declared.SCsrs.{SCsrs}
 use Rattle.xv_lone.specs.declared.vcpu.VcpuView.{VcpuView}
@@ -18,12 +18,12 @@ refused_text word = codes "refused " ++ word ++ line_end
 -- more frames are needed than are free
 unfoldable pub frames_text : ℕ → ℕ → List ℕ
 frames_text needed free = codes "refused frames need " ++ decimal needed ++ codes " free "
-  ++ decimal free ++ line_end
+    ++ decimal free ++ line_end
 
 unfoldable pub created_text : List ℕ → ℕ → ℕ → ℕ → List ℕ
 created_text name vcpus regions frames =
     codes "created " ++ name ++ codes " vcpus " ++ decimal vcpus ++ codes " regions "
-      ++ decimal regions ++ codes " frames " ++ decimal frames ++ line_end
+    ++ decimal regions ++ codes " frames " ++ decimal frames ++ line_end
 
 unfoldable pub poked_text : List ℕ → ℕ → List ℕ
 poked_text name count = codes "poked " ++ name ++ codes " " ++ decimal count ++ line_end
@@ -33,7 +33,7 @@ kicked_text name = codes "kicked " ++ name ++ line_end
 
 unfoldable pub ran_text : ℕ → ℕ → ℕ → List ℕ
 ran_text turns idle clock = codes "ran " ++ decimal turns ++ codes " idle " ++ decimal idle
-  ++ codes " now " ++ decimal clock ++ line_end
+    ++ codes " now " ++ decimal clock ++ line_end
 
 -- a script that isn't built
 unfoldable pub script_text : List ℕ
@@ -73,30 +73,30 @@ ssip_value false = 0
 unfoldable pub status_line : SCsrs → List ℕ
 status_line c =
     named_text (codes "sstatus") c.sstatus ++ codes " " ++ named_text (codes "sie") c.sie
-      ++ codes " " ++ named_text (codes "ssip") (ssip_value c.ssip) ++ codes " "
-      ++ named_text (codes "stvec") c.stvec ++ line_end
+    ++ codes " " ++ named_text (codes "ssip") (ssip_value c.ssip) ++ codes " "
+    ++ named_text (codes "stvec") c.stvec ++ line_end
 
 unfoldable pub trap_line : SCsrs → List ℕ
 trap_line c =
     named_text (codes "sscratch") c.sscratch ++ codes " " ++ named_text (codes "sepc") c.sepc
-      ++ codes " " ++ named_text (codes "scause") c.scause ++ codes " "
-      ++ named_text (codes "stval") c.stval ++ line_end
+    ++ codes " " ++ named_text (codes "scause") c.scause ++ codes " "
+    ++ named_text (codes "stval") c.stval ++ line_end
 
 unfoldable pub last_line : SCsrs → ℕ → List ℕ
 last_line c timer =
     named_text (codes "satp") c.satp ++ codes " "
-      ++ named_text (codes "scounteren") c.scounteren ++ codes " "
-      ++ named_text (codes "senvcfg") c.senvcfg ++ codes " " ++ named_text (codes "timer") timer
-      ++ line_end
+    ++ named_text (codes "scounteren") c.scounteren ++ codes " "
+    ++ named_text (codes "senvcfg") c.senvcfg ++ codes " " ++ named_text (codes "timer") timer
+    ++ line_end
 
 -- the line that heads the registers of VCPU number vcpu
 unfoldable pub regs_head : List ℕ → ℕ → VcpuView → List ℕ
 regs_head name vcpu v =
     codes "regs " ++ name ++ codes " " ++ decimal vcpu ++ codes " " ++ hart_state_text v.hart
-      ++ codes " " ++ mode_text v.user ++ codes " pc=" ++ hex16 v.pc ++ line_end
+    ++ codes " " ++ mode_text v.user ++ codes " pc=" ++ hex16 v.pc ++ line_end
 
 -- the twelve lines of a VCPU's registers
 unfoldable pub regs_text : List ℕ → ℕ → VcpuView → List ℕ
 regs_text name vcpu v =
     regs_head name vcpu v ++ registers_text v.x 32 ++ status_line v.csrs ++ trap_line v.csrs
-      ++ last_line v.csrs v.timer
+    ++ last_line v.csrs v.timer

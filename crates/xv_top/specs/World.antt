@@ -1,7 +1,7 @@
 -- The world: the clock, the scheduler's counts, and the lone machines of the live guests. It has no
 -- host memory and no hart.
-use Rattle.std.specs.Prelude.{ℕ, zero, suc, ◌+◌, ◌-◌, ◌%◌, ◌^◌, Bool, if◌then◌else◌, List, [], ◌∷◌,
-  ◌++◌, map, find, sum_by, Option, Some, None}
+use Rattle.std.specs.Prelude.{ℕ, zero, suc, ◌+◌, ◌-◌, ◌%◌, ◌^◌, Bool, if◌then◌else◌, List, [], ◌∷◌}
+use Rattle.std.specs.Prelude.{◌++◌, map, find, sum_by, Option, Some, None}
 use Rattle.std.specs.Str.{bytes_eq}
 use Rattle.xv_lone.specs.Plan.{Plan, need}
 use Rattle.xv_lone.specs.Machine.{Machine, guest_time}
