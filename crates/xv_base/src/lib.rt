@@ -9,6 +9,7 @@ mod memory;
 mod name;
 mod number;
 mod pairs;
+mod range;
 mod short;
 #[cfg(test)]
 mod tests;
@@ -18,6 +19,7 @@ pub use keys::{GuestKey, Span, VcpuNo};
 pub use name::{DevName, FileName, GuestName, dev_name_of, file_name_of, name_of};
 pub use number::number_of;
 pub use pairs::{Bytes, hex_pairs_of};
+pub use range::{lies_in, meets};
 
 /// Want of memory: the one answer that a call may give freely. Nothing is merged with it.
 #[derive(Clone, Copy, Debug, PartialEq, Eq)]

@@ -4,7 +4,7 @@ use Rattle.xv_base.specs.declared.keys.Span.{Span}
 use Rattle.xv_pool.specs.declared.fault.PoolFault.TheVariants.{NoRoot, NoFrame, ReservedBusy}
 use Rattle.xv_pool.specs.FrameList.{up_from}
 use Rattle.xv_pool.specs.Marks.{marked_from}
-use Rattle.xv_pool.specs.Range.{meets}
+use Rattle.xv_base.specs.Range.{meets}
 use Rattle.xv_pool.specs.Resources.{Resources, fresh, tested}
 
 span : ℕ → ℕ → Span

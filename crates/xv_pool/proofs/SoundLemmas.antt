@@ -4,7 +4,7 @@ use Rattle.std.specs.List.{remove}
 use Rattle.std.proofs.lemmas.List.Elements.{All-push, All-append, All-take, All-drop}
 use Rattle.std.proofs.lemmas.List.Sums.{sum_by-remove}
 use Rattle.xv_base.specs.declared.keys.Span.{Span}
-use Rattle.xv_pool.specs.Range.{meets_one, LiesIn}
+use Rattle.xv_base.specs.Range.{meets_one, LiesIn}
 use Rattle.xv_pool.specs.Resources.{Resources, IsSound, all_out}
 use Rattle.xv_pool.proofs.RangeLemmas.{count_by-push, weight}
 

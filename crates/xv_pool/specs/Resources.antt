@@ -6,7 +6,7 @@ use Rattle.xv_base.specs.declared.keys.Span.{Span}
 use Rattle.xv_pool.specs.declared.fault.PoolFault.{PoolFault}
 use Rattle.xv_pool.specs.declared.fault.PoolFault.TheVariants.{NoRoot, NoFrame, ReservedBusy}
 use Rattle.xv_pool.specs.FrameList.{up_from}
-use Rattle.xv_pool.specs.Range.{holds, meets_one, LiesIn}
+use Rattle.xv_base.specs.Range.{has_address, meets_one, LiesIn}
 
 pub record Resources : Type 0 where
   -- the frames of the pool are count ones from the first on
@@ -29,7 +29,7 @@ pub record IsSound (pool : Resources) : Type 0 where
   pub sixteen : length pool.roots ≡ 16
   -- each held range lies in the area, and no address in two of them
   pub reserved : All (λ range. LiesIn range pool.area) pool.held
-  pub apart : (address : ℕ) → count_by (holds address) pool.held ≤ 1
+  pub apart : (address : ℕ) → count_by (has_address address) pool.held ≤ 1
 
 -- nobody has anything
 abbrev pub fresh : ℕ → ℕ → Span → Resources

@@ -13,7 +13,7 @@ ghost use Rattle.std.specs.Prelude.{◌≡◌, ℕ, ◌+◌, ◌^◌, ◌<◌, �
 ghost use Rattle.std.specs.Prelude.{length, take, drop, sum_by, Contains, Err, IfOk, IfErr, OnOk};
 ghost use Rattle.std.specs.Prelude.{OnErr, is_err, IsErr, slice_get, slice_set, vec_len};
 ghost use Rattle.std.specs.Prelude.{vec_capacity, Some};
-ghost use Rattle.xv_pool.specs.Range.{LiesIn, meets_one, range_end};
+ghost use Rattle.xv_base.specs.Range.{LiesIn, meets_one, range_end};
 ghost use Rattle.xv_pool.specs.Resources.{IsSound, fresh, all_out, tested};
 
 pub use fault::PoolFault;

@@ -1,9 +1,9 @@
-//! Ranges of host addresses that share a byte.
+//! Ranges of the reserved area that are held.
 ghost use Rattle.std.specs.Prelude.{◌≡◌, ◌<◌, Contains, IfNone, IfSome, length, slice_index_or};
 ghost use Rattle.std.specs.List.{list_any};
-ghost use Rattle.xv_pool.specs.Range.{meets, meets_one};
+ghost use Rattle.xv_base.specs.Range.{meets_one};
 
-use xv_base::Span;
+use xv_base::{Span, meets};
 
 /// Whether one of the ranges shares a byte with a held one.
 pub(crate) fn any_is_held(held: &[Span], ranges: &[Span]) -> bool
@@ -31,15 +31,4 @@ pub(crate) fn place_of(held: &[Span], range: Span) -> Option<usize>
         }
     }
     None
-}
-
-// The end of a range may be 2^64, so distances are compared and not ends.
-fn meets(a: &Span, b: &Span) -> bool
-    ensures { result ≡ meets a.now b.now }
-{
-    if a.start <= b.start {
-        b.len != 0 && b.start - a.start < a.len
-    } else {
-        a.len != 0 && a.start - b.start < b.len
-    }
 }

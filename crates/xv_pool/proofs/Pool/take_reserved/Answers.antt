@@ -1,6 +1,6 @@
 use Rattle.std.proofs.Common.{◌≡◌, false, sym, subst, ap, arith}
 use Rattle.xv_base.specs.declared.keys.Span.{Span}
-use Rattle.xv_pool.specs.Range.{LiesIn, meets_one}
+use Rattle.xv_base.specs.Range.{LiesIn, meets_one}
 use Rattle.xv_pool.specs.Kept.{resources_of}
 use Rattle.xv_pool.proofs.SoundLemmas.{IsSound-taken}
 use Rattle.xv_pool.proofs.Pool.take_reserved.Goals as goal

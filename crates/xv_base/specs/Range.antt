@@ -1,5 +1,5 @@
--- Ranges of host addresses, in bytes.
-use Rattle.std.specs.Prelude.{ℕ, ◌+◌, ◌≤◌, Bool, ◌&&◌, nat_le, nat_lt, max, min, List}
+-- Ranges of addresses, in bytes.
+use Rattle.std.specs.Prelude.{ℕ, ◌+◌, Bool, ◌&&◌, nat_le, nat_lt, max, min, List, IsTrue}
 use Rattle.std.specs.List.{list_any}
 use Rattle.xv_base.specs.declared.keys.Span.{Span}
 
@@ -8,8 +8,8 @@ abbrev pub range_end : Span → ℕ
 range_end range = range.start + range.len
 
 -- the address lies in the range
-abbrev pub holds : ℕ → Span → Bool
-holds address range = nat_le range.start address && nat_lt address (range_end range)
+abbrev pub has_address : ℕ → Span → Bool
+has_address address range = nat_le range.start address && nat_lt address (range_end range)
 
 -- two ranges share a byte: the later start lies before the earlier end
 abbrev pub meets : Span → Span → Bool
@@ -19,7 +19,10 @@ meets a b = nat_lt (max a.start b.start) (min (range_end a) (range_end b))
 abbrev pub meets_one : List Span → Span → Bool
 meets_one ranges range = list_any (meets range) ranges
 
--- the inner range ends and begins within the outer one
-pub record LiesIn (inner outer : Span) : Type 0 where
-  pub start : outer.start ≤ inner.start
-  pub end : range_end inner ≤ range_end outer
+-- the inner range begins and ends within the outer one
+abbrev pub lies_in : Span → Span → Bool
+lies_in inner outer =
+    nat_le outer.start inner.start && nat_le (range_end inner) (range_end outer)
+
+abbrev pub LiesIn : Span → Span → Type 0
+LiesIn inner outer = IsTrue (lies_in inner outer)
