@@ -39,8 +39,8 @@ impl Flags for Hstatus {
     }
 }
 
-/// The exceptions that a guest takes by itself, as bits of hedeleg (section 8.2.2). Calls from S the
-/// hypervisor answers, and access faults it makes of guest-page faults.
+/// The exceptions that a guest takes by itself, as bits of hedeleg (section 8.2.2). Calls from S
+/// the hypervisor answers, and access faults it makes of guest-page faults.
 #[derive(Clone, Copy, Debug, PartialEq, Eq)]
 pub struct GuestExceptions(u64);
 

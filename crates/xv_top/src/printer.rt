@@ -1,5 +1,6 @@
 //! Text of answers, put together in room that is reserved once.
-ghost use Rattle.std.specs.Prelude.{◌≡◌, ℕ, ◌+◌, ◌*◌, ◌<◌, ◌≤◌, List, [], ◌∷◌, ◌++◌, length, decimal, IfOk, vec_len, vec_capacity};
+ghost use Rattle.std.specs.Prelude.{◌≡◌, ℕ, ◌+◌, ◌*◌, ◌<◌, ◌≤◌, List, [], ◌∷◌, ◌++◌, length};
+ghost use Rattle.std.specs.Prelude.{decimal, IfOk, vec_len, vec_capacity};
 ghost use Rattle.xv_base.specs.Text.{hex_digit, hex_digits, hex16, hex_bytes};
 
 use itoa::Buffer;
