@@ -118,8 +118,7 @@ register_written-kept csrs value Scounteren kept =
       stvec = kept.stvec;
       scounteren = kept_scounteren-kept value;
       senvcfg = kept.senvcfg;
-      sepc =
-          kept.sepc;
+      sepc = kept.sepc;
       satp = kept.satp;
     }
 register_written-kept csrs value Senvcfg kept =
@@ -129,8 +128,7 @@ register_written-kept csrs value Senvcfg kept =
       stvec = kept.stvec;
       scounteren = kept.scounteren;
       senvcfg = kept_senvcfg-kept value;
-      sepc =
-          kept.sepc;
+      sepc = kept.sepc;
       satp = kept.satp;
     }
 register_written-kept csrs value Sscratch kept =
@@ -150,8 +148,7 @@ register_written-kept csrs value Sepc kept =
       stvec = kept.stvec;
       scounteren = kept.scounteren;
       senvcfg = kept.senvcfg;
-      sepc =
-          kept_sepc-kept value;
+      sepc = kept_sepc-kept value;
       satp = kept.satp;
     }
 register_written-kept csrs value Scause kept =
@@ -192,8 +189,7 @@ register_written-kept csrs value Satp kept =
       scounteren = kept.scounteren;
       senvcfg = kept.senvcfg;
       sepc = kept.sepc;
-      satp =
-          kept_satp-kept csrs.satp value kept.satp;
+      satp = kept_satp-kept csrs.satp value kept.satp;
     }
 register_written-kept csrs value Time kept = kept
 
@@ -219,8 +215,7 @@ trap_csrs-kept csrs user cause tval pc kept aligned =
       stvec = kept.stvec;
       scounteren = kept.scounteren;
       senvcfg = kept.senvcfg;
-      sepc =
-          omega arith;
+      sepc = omega arith;
       satp = kept.satp;
     }
 
@@ -233,8 +228,7 @@ return_csrs-kept csrs kept =
       stvec = kept.stvec;
       scounteren = kept.scounteren;
       senvcfg = kept.senvcfg;
-      sepc =
-          kept.sepc;
+      sepc = kept.sepc;
       satp = kept.satp;
     }
 

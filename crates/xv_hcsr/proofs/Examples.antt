@@ -19,8 +19,7 @@ the_registers : last
       hgatp = 0x8000_F000_0000_003C;
       htimedelta = 0xFFFF_FFFF_FFFF_FFF9;
       hcounteren = 2;
-      htval =
-          0;
+      htval = 0;
       htinst = 0;
     }
 unfolding last guest_hcsrs

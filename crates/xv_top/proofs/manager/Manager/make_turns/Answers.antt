@@ -13,8 +13,7 @@ loop-made-init g c = record {
   going = record {
     so_far = turns_start c.args.turns
         (world_of c.args.self.now c.args.machine.now.mem) (taken_by c.args.machine.now.hart);
-    all =
-        λ none. refl;
+    all = λ none. refl;
   };
   sound = c.requires.sound;
   fit = c.requires.fit;
