@@ -10,12 +10,12 @@ use crate::command::Command;
 use crate::frames::frames_needed;
 use crate::guest::Guest;
 use crate::layout::ROOT_FRAMES;
-use crate::printer::Printer;
 use crate::report;
 use std::sync::ledger::Ledger;
 use xv_base::GuestName;
 use xv_hart::Machine;
 use xv_mem::Steps;
+use xv_print::Printer;
 
 /// The tick before a script changes it.
 const FIRST_TICK: u64 = 100;

@@ -18,7 +18,6 @@ ghost use Rattle.xv_top.specs.Transcript.{transcript};
 
 use crate::command::Command;
 use crate::manager::Manager;
-use crate::printer::Printer;
 use crate::read::{ReadFault, read_script};
 use crate::script::{ScriptFault, parse};
 use crate::stop::Stop;
@@ -29,6 +28,7 @@ use std::sync::ledger::{Blank, Ledger};
 use xv_hart::Machine;
 use xv_mem::Steps;
 use xv_outside::{Failed, Files, Sink, Source};
+use xv_print::Printer;
 
 /// Host memory in MiB.
 const MEM_MIB: u32 = 64;
