@@ -7,7 +7,6 @@ use payload::{BLOB, NODES, Props};
 use std::alloc::{AllocError, Global};
 use std::process::Abort;
 use std::test::Fail;
-use xv_base::hex_pairs_of;
 
 /// The structure of the least tree: the root, without a name.
 const LEAST: [u32; 4] = [1, 0, 2, 9];
@@ -57,7 +56,7 @@ type Gives = Option<(FdtKind, u32)>;
 /// A structure, its strings, and what they give.
 type Row = (&'static [u32], &'static [u8], Gives);
 
-const STRUCTURES: [Row; 31] = [
+const STRUCTURES: [Row; 33] = [
     (&LEAST, b"", None),
     // another token in the place of each
     (&[9, 0, 2, 9], b"", Some((FdtKind::Unbalanced, 56))),
@@ -118,6 +117,25 @@ const STRUCTURES: [Row; 31] = [
         Some((FdtKind::BadName, 76)),
     ),
     (&[1, 0, 3, 0, 0, 1, A, 3, 0, 0, 2, 2, 9], b"a\0", None),
+    // 16 nodes in one another, and 17
+    (&DEEPEST, b"", None),
+    (&TOO_DEEP, b"", Some((FdtKind::TooDeep, 184))),
+];
+
+const DEEPEST: [u32; 49] = [
+    1, 0, 1, A, 1, A, 1, A, 1, A, 1, A, 1, A, 1, A, 1, A, 1, A, 1, A, 1, A, 1, A, 1, A, 1, A, 1, A,
+    2, 2, 2, 2, 2, 2, 2, 2, 2, 2, 2, 2, 2, 2, 2, 2, 9,
+];
+
+/// The beginnings of 17 nodes.
+const TOO_DEEP: [u32; 34] = [
+    1, 0, 1, A, 1, A, 1, A, 1, A, 1, A, 1, A, 1, A, 1, A, 1, A, 1, A, 1, A, 1, A, 1, A, 1, A, 1, A,
+    1, A,
+];
+
+/// The file of the least tree, as words.
+const LEAST_FILE: [u32; 18] = [
+    0xd00dfeed, 72, 56, 72, 40, 17, 16, 0, 0, 16, 0, 0, 0, 0, 1, 0, 2, 9,
 ];
 
 /// A word of the least tree's header in another's place: where it stands, the word, and the fault.
@@ -156,11 +174,12 @@ fn check_structures(rt: &impl Abort, alloc: Global, rows: &[Row]) -> Result<(), 
 
 fn check_words(rt: &impl Abort, alloc: Global, rows: &[(usize, u32, Gives)]) -> Result<(), Fail> {
     for (at, word, gives) in rows {
-        let mut bytes = file(alloc, &LEAST, b"")?;
-        let (at, word) = (*at, *word);
-        assert!(rt; at < 40);
-        assert!(rt; at + 4 <= bytes.len());
-        bytes[at..at + 4].copy_from_slice(&word.to_be_bytes());
+        let number = *at / 4;
+        assert!(rt; number < 18);
+        let mut words = LEAST_FILE;
+        words[number] = *word;
+        let mut bytes = Vec::new(alloc);
+        put_words(&mut bytes, &words)?;
         assert_eq!(rt; fault_of(alloc, &bytes)?, *gives, "{at} {word}");
     }
     Ok(())
@@ -205,39 +224,15 @@ fn least_tree_cut_anywhere(rt: HostRuntime) -> Result<(), Fail> {
     Ok(())
 }
 
-/// So many nodes in one another below the root.
-fn nested(alloc: Global, count: usize) -> Result<Vec<u8>, AllocError> {
-    let mut structure = vec![in alloc; 1, 0]?;
-    for _ in 0..count {
-        structure.extend_from_slice(&[1, A])?;
-    }
-    for _ in 0..count {
-        structure.push(2)?;
-    }
-    structure.extend_from_slice(&[2, 9])?;
-    file(alloc, &structure, b"")
-}
-
 fn filled(alloc: Global, byte: u8, len: usize) -> Result<Vec<u8>, AllocError> {
     vec![in alloc; byte; len]
 }
-
-/// How many nodes lie in one another below the root, and what they give.
-const DEPTHS: [(usize, Gives); 3] = [
-    (15, None),
-    (16, Some((FdtKind::TooDeep, 184))),
-    (17, Some((FdtKind::TooDeep, 184))),
-];
 
 /// The length of a name, and whether it is one.
 const NAMES: [(usize, bool); 4] = [(0, true), (1, true), (63, true), (64, false)];
 
 #[test]
-fn limits_of_depth_length_and_names(rt: HostRuntime) -> Result<(), Fail> {
-    for (count, gives) in DEPTHS {
-        let bytes = nested(rt.alloc(), count)?;
-        assert_eq!(rt; fault_of(rt.alloc(), &bytes)?, gives, "{count}");
-    }
+fn limits_of_length_and_names(rt: HostRuntime) -> Result<(), Fail> {
     let long = filled(rt.alloc(), 0, 1_048_577)?;
     assert_eq!(rt; fault_of(rt.alloc(), &long)?, Some((FdtKind::TooBig, 0)));
 
@@ -274,22 +269,18 @@ fn assert_nodes(rt: &impl Abort, tree: &Tree, rows: &[(&str, u32, u8, Props)]) {
     }
 }
 
-fn bytes_of(alloc: Global, lines: &[&str]) -> Result<Vec<u8>, Fail> {
-    let mut bytes = Vec::new(alloc);
-    for line in lines {
-        let pairs = hex_pairs_of(alloc, line.as_bytes()).map_err(|_| "memory")?;
-        bytes.extend_from_slice(&pairs.ok_or("pairs of digits")?.0)?;
-    }
-    Ok(bytes)
-}
-
 #[test]
 fn realistic_tree_read_and_written(rt: HostRuntime) -> Result<(), Fail> {
-    let blob = bytes_of(rt.alloc(), &BLOB)?;
-    let tree = read(rt.alloc(), &blob).map_err(|_| "the blob of dtc")?;
+    let Ok(tree) = read(rt.alloc(), BLOB) else {
+        return Err(Fail::from("the blob of dtc"));
+    };
     assert_nodes(&rt, &tree, &NODES);
-    let bytes = write(rt.alloc(), &tree).map_err(|_| "memory")?;
-    let again = read(rt.alloc(), &bytes).map_err(|_| "the written file")?;
+    let Ok(bytes) = write(rt.alloc(), &tree) else {
+        return Err(Fail::from("memory"));
+    };
+    let Ok(again) = read(rt.alloc(), &bytes) else {
+        return Err(Fail::from("the written file"));
+    };
     assert_nodes(&rt, &again, &NODES);
     Ok(())
 }

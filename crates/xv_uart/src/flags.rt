@@ -112,10 +112,10 @@ pub struct LineControl(u8);
 impl LineControl {
     pub const DIVISOR_LATCH: LineControl = LineControl(0x80);
 
-    pub const FLAGS: &'static [Flag<LineControl>] = &[Flag::new(
-        "DIVISOR_LATCH",
-        LineControl::DIVISOR_LATCH,
-    )];
+    pub const FLAGS: &'static [Flag<LineControl>] = &[Flag {
+        name: "DIVISOR_LATCH",
+        value: LineControl::DIVISOR_LATCH,
+    }];
 }
 
 impl Flags for LineControl {
