@@ -1,5 +1,5 @@
 //! The program `xv`: runs a script of manager commands from standard input, and writes the answers
-//! to standard output.
+//! to standard output. Files are those of the current folder.
 #![tactic(auto)]
 
 mod fault;
@@ -9,7 +9,7 @@ use std::io::ErrorKind;
 use std::process::ExitCode;
 use std::{env, io};
 use xv_hart::Machine;
-use xv_outside::{EmptyFiles, StdSink, StdSource};
+use xv_outside::{DirFiles, StdSink, StdSource};
 use xv_top::boot;
 
 /// The status for words that aren't the usage's.
@@ -27,7 +27,7 @@ fn main(rt: HostRuntime) -> ExitCode {
     ExitCode::from(status)
 }
 
-/// Runs the program with the words after its name, over the process's own streams.
+/// Runs the program with the words after its name, over the process's own streams and folder.
 fn run(rt: &HostRuntime) -> u8 {
     let words = match words_of(rt) {
         Ok(words) => words,
@@ -35,13 +35,14 @@ fn run(rt: &HostRuntime) -> u8 {
     };
     let mut source = StdSource::new(rt.stdin());
     let mut sink = StdSink::new(rt.stdout());
+    let mut files = DirFiles::new(*rt);
     let mut machine = Machine::bare();
     boot(
         rt.alloc(),
         &words,
         &mut source,
         &mut sink,
-        &mut EmptyFiles,
+        &mut files,
         &mut machine,
     )
 }

@@ -1,3 +1,3 @@
-mod Empty
+mod Entries
 mod Tries
 pub mod Told

@@ -21,3 +21,7 @@ Tells entry limit TooBig = (bytes : List ℕ) × (entry ≡ Some bytes) × (limi
 abbrev pub TellsOf : Option FileMap → List ℕ → ℕ → Fetched → Type 0
 TellsOf None name limit fetched = Unit {0}
 TellsOf (Some files) name limit fetched = Tells (map.get files name) limit fetched
+
+-- bytes stand under a name, within the limit
+abbrev pub IsWithin : Option (List ℕ) → ℕ → Type 0
+IsWithin entry limit = (bytes : List ℕ) × (entry ≡ Some bytes) × (length bytes ≤ limit)

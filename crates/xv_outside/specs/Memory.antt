@@ -1,6 +1,8 @@
--- The forms in memory of a source and a sink, as contracts see them.
-use Rattle.std.specs.Prelude.{ℕ, ◌+◌, ◌-◌, ◌^◌, ◌==◌, Bool, if◌then◌else◌, min, List}
+-- The forms in memory of a source, a sink and files, as contracts see them.
+use Rattle.std.specs.Prelude.{ℕ, ◌+◌, ◌-◌, ◌^◌, ◌==◌, Bool, if◌then◌else◌, min, List, map}
 use Rattle.std.specs.List.{list_any}
+use Rattle.std.specs.FinMap.{from_entries}
+use Rattle.xv_outside.specs.Fetch.{FileMap}
 
 -- the numbers, from 0, of the calls that fail, how many calls were made, and how many of them
 -- failed
@@ -19,6 +21,20 @@ pub record SinkState : Type 0 where
   pub taken : List ℕ
   pub room : ℕ
   pub calls : CallCount
+
+-- a file: its name, and the bytes under it
+pub record FileEntry : Type 0 where
+  pub name : List ℕ
+  pub bytes : List ℕ
+
+-- files: the entries, of which the first of a name counts
+pub record FilesState : Type 0 where
+  pub entries : List FileEntry
+  pub calls : CallCount
+
+-- the bytes under each name, of the first entry that has it
+unfoldable pub file_map : List FileEntry → FileMap
+file_map entries = from_entries (map (λ entry. (entry.name, entry.bytes)) entries)
 
 -- a count that rises, and stands at the greatest value of 64 bits
 abbrev pub next_count : ℕ → ℕ

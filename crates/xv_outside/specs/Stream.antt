@@ -1,6 +1,8 @@
 -- An adapter over a reader or a writer, as its own contracts see it.
-use Rattle.std.specs.Prelude.{◌≡◌, ℕ, List, ◌++◌, Option}
-use Rattle.std.specs.Io.KnownBytes.{Appends}
+use Rattle.std.specs.Prelude.{◌≡◌, ◌≤◌, ℕ, List, ◌++◌, length, Option, Some, None}
+use Rattle.std.specs.Io.KnownBytes.{Appends, Consumes, IsAtEnd}
+use Rattle.xv_outside.specs.Fetch.{Tells}
+use Rattle.xv_outside.specs.declared.outside.Fetched.{Fetched}
 
 -- the bytes that the reader has left or the writer holds, where it says so, and how many calls
 -- failed
@@ -14,3 +16,18 @@ pub record AppendsFront (old new : Option (List ℕ)) (piece : List ℕ) : Type 
   pub rest : List ℕ
   pub whole : front ++ rest ≡ piece
   pub appended : Appends old new front
+
+-- n bytes, at most this many, were moved from a reader behind the bytes that were read before; none
+-- only at the end
+pub record ReadsOn (old new : Option (List ℕ)) (before after : List ℕ) (most n : ℕ) : Type 0 where
+  pub piece : List ℕ
+  pub grown : after ≡ before ++ piece
+  pub count : length piece ≡ n
+  pub few : n ≤ most
+  pub consumed : Consumes old new piece
+  pub ended : n ≡ 0 → IsAtEnd new
+
+-- a file was read to its end or one byte past the limit: an answer as to the bytes that it had left
+abbrev pub IsReadWithin : Option (List ℕ) → ℕ → Fetched → Type 0
+IsReadWithin None limit fetched = Unit {0}
+IsReadWithin (Some left) limit fetched = Tells (Some left) limit fetched

@@ -36,7 +36,7 @@ impl<R: Read> ReaderSource<R> {
 
 // One read that goes through. A read that a signal cut off is made again.
 #[tactic(auto, using(crate::proofs::Tries::of_reads))]
-fn read_some<R: Read>(reader: &mut R, buf: &mut [u8]) -> Result<usize, Failed>
+pub(crate) fn read_some<R: Read>(reader: &mut R, buf: &mut [u8]) -> Result<usize, Failed>
     ensures within { IfOk result (λ n. n ≤ length buf.new) }
     ensures bytes { ReadConsumes (R.remaining reader.old) (R.remaining reader.new) result buf.new }
 {

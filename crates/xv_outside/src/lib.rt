@@ -6,11 +6,15 @@
 
 mod adapters;
 mod calls;
+mod directory;
+mod files;
 mod memory;
 mod outside;
 
 pub use adapters::{ReaderSource, StdSink, StdSource, WriterSink};
-pub use memory::{EmptyFiles, MemSink, MemSource};
+pub use directory::DirFiles;
+pub use files::{MemFile, MemFiles};
+pub use memory::{MemSink, MemSource};
 pub use outside::{Failed, FetchFault, Fetched, Files, Sink, Source};
 
 #[cfg(test)]

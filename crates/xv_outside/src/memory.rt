@@ -1,4 +1,4 @@
-//! The forms in memory of source, sink and files.
+//! The forms in memory of source and sink.
 ghost use Rattle.std.specs.Prelude.{◌≡◌, ◌↔◌, ◌⊎◌, ◌+◌, ◌<◌, ◌≤◌, ◌++◌, [], min, length, drop};
 ghost use Rattle.std.specs.Prelude.{Some, IfOk, OnOk, OnErr, IsErr, IsTrue, vec_len, vec_capacity};
 ghost use Rattle.std.specs.Result.{is_err};
@@ -9,7 +9,7 @@ ghost use Rattle.xv_outside.specs.Memory.{SourceState, SinkState, no_calls, fail
 ghost use Rattle.xv_outside.specs.Memory.{calls_after};
 
 use crate::calls::Calls;
-use crate::outside::{Failed, FetchFault, Fetched, Files, Sink, Source};
+use crate::outside::{Failed, Sink, Source};
 use std::alloc::Global;
 use std::marker::Model;
 use xv_base::NoMemory;
@@ -149,27 +149,5 @@ impl Sink for MemSink {
             unreachable!()
         };
         Ok(())
-    }
-}
-
-/// No files at all.
-#[derive(Clone, Copy, Debug, PartialEq, Eq)]
-pub struct EmptyFiles;
-
-impl Files for EmptyFiles {
-    ghost use Rattle.std.specs.Prelude.{◌≡◌, Some, Ok, IfOk};
-    ghost use Rattle.std.specs.FinMap.{empty};
-    ghost use Rattle.xv_outside.specs.Fetch.{TellsOf};
-
-    ghost map = { λ _. Some empty };
-
-    ghost faults = { λ _. 0 };
-
-    #[tactic(auto, using(crate::proofs::Empty::none_there))]
-    fn fetch(&mut self, _alloc: Global, _name: &str, _limit: usize) -> Result<Fetched, FetchFault>
-        ensures missing { result ≡ Ok Fetched.Missing }
-        ensures told { IfOk result (λ fetched. TellsOf (Some empty) _name.now _limit fetched) }
-    {
-        Ok(Fetched::Missing)
     }
 }

@@ -1,10 +1,12 @@
 use crate::{
-    EmptyFiles, Failed, Fetched, Files, MemSink, MemSource, ReaderSource, Sink, Source, WriterSink,
+    DirFiles, Failed, FetchFault, Fetched, Files, MemFile, MemFiles, MemSink, MemSource,
+    ReaderSource, Sink, Source, WriterSink,
 };
 use std::alloc::Global;
-use std::io;
 use std::io::{Error, ErrorKind, Read, Write};
 use std::test::Fail;
+use std::{fs, io};
+use xv_base::file_name_of;
 
 fn numbers(alloc: Global, failing: &[u64]) -> Result<Vec<u64>, Fail> {
     Ok(failing.to_vec(alloc)?)
@@ -150,8 +152,64 @@ fn sinks(rt: HostRuntime) -> Result<(), Fail> {
     Ok(())
 }
 
+// What a fetch gives: the bytes, or in words why there are none.
+fn fetched<F: Files>(
+    files: &mut F,
+    alloc: Global,
+    name: &str,
+    limit: usize,
+) -> Result<Vec<u8>, Fail> {
+    let reason = match files.fetch(alloc, name, limit) {
+        Ok(Fetched::Bytes(bytes)) => return Ok(bytes),
+        Ok(Fetched::Missing) => "missing",
+        Ok(Fetched::TooBig) => "too big",
+        Err(FetchFault::Failed) => "failed",
+        Err(FetchFault::NoMemory) => "no memory",
+    };
+    Ok(reason.as_bytes().to_vec(alloc)?)
+}
+
 #[test]
-fn no_files(rt: HostRuntime) {
-    let fetched = EmptyFiles.fetch(rt.alloc(), "a", 0);
-    assert!(rt; matches!(fetched, Ok(Fetched::Missing)));
+fn files_in_memory(rt: HostRuntime) -> Result<(), Fail> {
+    let mut entries = Vec::new(rt.alloc());
+    for (name, bytes) in [("a", "one"), ("a", "other"), ("d/b", "")] {
+        let name = file_name_of(name.as_bytes()).ok_or("no name")?;
+        let bytes = bytes.as_bytes().to_vec(rt.alloc())?;
+        entries.push(MemFile { name, bytes })?;
+    }
+    let mut files = MemFiles::new(entries, numbers(rt.alloc(), &[1])?);
+    let rows = [
+        ("a", 3, "one"),
+        ("a", 3, "failed"),
+        ("a", 4, "one"),
+        ("a", 2, "too big"),
+        ("d/b", 0, ""),
+        ("b", 9, "missing"),
+    ];
+    for (name, limit, answer) in rows {
+        let given = fetched(&mut files, rt.alloc(), name, limit)?;
+        assert_eq!(rt; given.as_slice(), answer.as_bytes(), "{name} {limit}");
+    }
+    Ok(())
+}
+
+#[test]
+fn files_of_the_folder(rt: HostRuntime) -> Result<(), Fail> {
+    fs::write(&rt, "short", "0123")?;
+    fs::write(&rt, "empty", "")?;
+    let mut files = DirFiles::new(rt);
+    let rows = [
+        ("short", 4, "0123"),
+        ("short", 3, "too big"),
+        ("./short", 5000, "0123"),
+        ("empty", 0, ""),
+        ("other", 9, "missing"),
+        ("short/other", 9, "failed"),
+        (".", 9, "failed"),
+    ];
+    for (name, limit, answer) in rows {
+        let given = fetched(&mut files, rt.alloc(), name, limit)?;
+        assert_eq!(rt; given.as_slice(), answer.as_bytes(), "{name} {limit}");
+    }
+    Ok(())
 }

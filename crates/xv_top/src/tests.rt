@@ -5,7 +5,7 @@ use rows::ROWS;
 use std::alloc::Global;
 use std::test::Fail;
 use xv_hart::Machine;
-use xv_outside::{EmptyFiles, MemSink, MemSource};
+use xv_outside::{MemFiles, MemSink, MemSource};
 
 /// The calls of source and sink that fail, by their numbers from 0, and the room of the sink.
 #[derive(Clone, Copy)]
@@ -76,13 +76,14 @@ fn run(alloc: Global, words: &[&str], script: &[u8], faults: Faults) -> Result<R
     let mut sink = MemSink::new(alloc, puts, faults.room)
         .ok()
         .ok_or("no memory")?;
+    let mut files = MemFiles::new(Vec::new(alloc), Vec::new(alloc));
     let mut machine = Machine::bare();
     let status = boot(
         alloc,
         &strings,
         &mut source,
         &mut sink,
-        &mut EmptyFiles,
+        &mut files,
         &mut machine,
     );
     Ok(Ran {
