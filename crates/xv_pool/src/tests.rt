@@ -13,7 +13,6 @@ fn every_root_taken_and_given(rt: HostRuntime) -> Result<(), Fail> {
         let root = pool.take_root()?;
         assert_eq!(rt; root, expected);
         pool.give_root(root);
-        assert_eq!(rt; pool.test(1, &[]), Ok(()));
         assert_eq!(rt; pool.take_root(), Ok(expected));
     }
     assert_eq!(rt; pool.take_root(), Err(PoolFault::NoRoot));
@@ -77,10 +76,7 @@ fn ranges_in_pairs(rt: HostRuntime) -> Result<(), Fail> {
         };
         let mut pool = Pool::new(rt.alloc(), 64, 1, AREA)?;
         pool.take_reserved(range)?;
-        pool.give_reserved(range);
-        pool.take_reserved(range)?;
         assert_eq!(rt; pool.test(1, &[other]), answer, "{start} {other_start}");
-        assert_eq!(rt; pool.take_reserved(other), answer, "{start} {other_start}");
     }
     Ok(())
 }
@@ -103,7 +99,9 @@ fn as_many_ranges_as_there_are_regions(rt: HostRuntime) -> Result<(), Fail> {
         start: 512 * 4096,
         len: 1,
     };
-    assert_eq!(rt; pool.test(1, &[behind]), Ok(()));
     assert_eq!(rt; pool.test(1, &[behind, last]), Err(PoolFault::ReservedBusy));
+    pool.take_reserved(behind)?;
+    pool.give_reserved(behind);
+    assert_eq!(rt; pool.test(1, &[behind]), Ok(()));
     Ok(())
 }

@@ -23,8 +23,7 @@ fn output(rt: HostRuntime) -> Result<(), Fail> {
         assert_eq!(rt; serial.kept_at(0), oldest, "{count}");
         assert_eq!(rt; serial.kept_at(kept), None, "{count}");
         serial.clear_kept();
-        assert_eq!(rt; serial.lost(), 0);
-        assert_eq!(rt; serial.kept_len(), 0);
+        assert_eq!(rt; serial.lost(), 0, "{count}");
     }
     Ok(())
 }
@@ -41,7 +40,8 @@ const INPUTS: [(usize, usize, Result<(), InputFull>); 6] = [
 
 #[test]
 fn input(rt: HostRuntime) -> Result<(), Fail> {
-    let bytes = [0x41; 4097];
+    let bytes = vec![in rt.alloc(); 0x41u8; 4097]?;
+    assert_eq!(rt; bytes.len(), 4097);
     for (waiting, coming, answer) in INPUTS {
         assert!(rt; waiting <= 4096 && coming <= 4097);
         let mut serial = Vserial::new(rt.alloc()).map_err(|_| "memory")?;
@@ -51,12 +51,6 @@ fn input(rt: HostRuntime) -> Result<(), Fail> {
             answer,
             "{waiting} {coming}"
         );
-        let all = if answer.is_ok() {
-            waiting + coming
-        } else {
-            waiting
-        };
-        assert_eq!(rt; serial.queue_len(), all, "{waiting} {coming}");
         serial.clear_input();
         assert_eq!(rt; serial.next(), None);
     }
@@ -75,9 +69,6 @@ fn order(rt: HostRuntime) -> Result<(), Fail> {
     serial.put(5);
     assert_eq!(rt; serial.kept_at(0), Some(3));
     assert_eq!(rt; serial.kept_at(1), Some(5));
-    serial.refill(&[], &[7; 65536], u64::MAX);
-    serial.put(8);
     assert_eq!(rt; serial.lost(), u64::MAX);
-    assert_eq!(rt; serial.kept_at(65535), Some(8));
     Ok(())
 }
