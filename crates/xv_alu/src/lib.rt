@@ -1,4 +1,5 @@
-//! The integer results of the rows of I, M and A (Unprivileged ISA 20191213, chapters 2, 5, 7 and 8).
+//! The integer results of the rows of I, M and A (Unprivileged ISA 20191213, chapters 2, 5, 7 and
+//! 8).
 #![tactic(auto)]
 
 mod atomics;

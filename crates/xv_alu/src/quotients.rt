@@ -1,5 +1,5 @@
-//! Quotients and remainders, rounded towards zero. By zero a quotient is all ones and a remainder the
-//! dividend; the least number by -1 is itself, with remainder 0.
+//! Quotients and remainders, rounded towards zero. By zero a quotient is all ones and a remainder
+//! the dividend; the least number by -1 is itself, with remainder 0.
 
 ghost use Rattle.std.specs.Prelude.{◌≡◌, ℕ, ◌<◌, ◌+◌, ◌*◌, ◌/◌, ◌%◌, ◌^◌};
 ghost use Rattle.std.specs.Int.{IsNonZero, w64};

@@ -13,4 +13,5 @@ contains_power (suc zero) power small some = grind (arith, nat_tests)
 contains_power (suc (suc bit)) power small some = absurd (omega arith)
 
 pub contains-bit : (number k : ℕ) → (bit_and number (2 ^ k) == 2 ^ k) ≡ has_bit k number
-contains-bit number k = rw and_pow (contains_power (bit_at number k) (2 ^ k) (bit_at-lt number k) (pow_pos k))
+contains-bit number k =
+    rw and_pow (contains_power (bit_at number k) (2 ^ k) (bit_at-lt number k) (pow_pos k))

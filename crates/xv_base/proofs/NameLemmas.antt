@@ -1,5 +1,6 @@
 -- What the grammar of names says of their lengths and bytes.
-use Rattle.std.proofs.Common.{◌≡◌, ℕ, ◌<◌, ◌≤◌, Bool, true, false, ◌&&◌, refl, List, [], ◌∷◌, length, leb, arith}
+use Rattle.std.proofs.Common.{◌≡◌, ℕ, ◌<◌, ◌≤◌, Bool, true, false, ◌&&◌, refl, List, [], ◌∷◌}
+use Rattle.std.proofs.Common.{length, leb, arith}
 use Rattle.std.specs.List.{list_all}
 use Rattle.std.specs.Char.{is_ascii_graphic}
 use Rattle.std.specs.Str.{IsAscii, IsUtf8}
@@ -38,7 +39,8 @@ pub ruleset dev_names = length-dev_name
 pub ruleset file_names = length-file_name
 
 -- bytes that all pass a test of bytes below 128 are a text
-pub IsAscii-all : (test : ℕ → Bool) → ((byte : ℕ) → test byte ≡ true → byte < 128) → (bytes : List ℕ) → list_all test bytes ≡ true → IsAscii bytes
+pub IsAscii-all : (test : ℕ → Bool) → ((byte : ℕ) → test byte ≡ true → byte < 128)
+    → (bytes : List ℕ) → list_all test bytes ≡ true → IsAscii bytes
 IsAscii-all test below [] passes = IsAscii-nil
 IsAscii-all test below (byte ∷ bytes) passes =
     let parts = both (test byte) (list_all test bytes) passes in
@@ -48,4 +50,5 @@ pub IsUtf8-file_name : (bytes : List ℕ) → is_file_name bytes ≡ true → Is
 unfolding is_file_name
 IsUtf8-file_name bytes named =
     let graphic : list_all is_ascii_graphic bytes ≡ true = grind (arith, nat_tests) in
-    IsUtf8-from_ascii bytes (IsAscii-all is_ascii_graphic (λ byte is. grind (arith, nat_tests)) bytes graphic)
+    IsUtf8-from_ascii bytes
+    (IsAscii-all is_ascii_graphic (λ byte is. grind (arith, nat_tests)) bytes graphic)

@@ -1,5 +1,6 @@
 -- Bits of a number of 64 bits by their places.
-use Rattle.std.specs.Prelude.{ℕ, ◌+◌, ◌-◌, ◌^◌, ◌==◌, Bool, if◌then◌else◌, List, [], ◌∷◌, bit_and, bit_or}
+use Rattle.std.specs.Prelude.{ℕ, ◌+◌, ◌-◌, ◌^◌, ◌==◌, Bool, if◌then◌else◌, List, [], ◌∷◌, bit_and}
+use Rattle.std.specs.Prelude.{bit_or}
 use Rattle.std.specs.Int.{bit_at}
 
 -- bit k is 1
@@ -8,7 +9,8 @@ has_bit k number = bit_at number k == 1
 
 -- the number with bit k as given
 abbrev pub with_bit : ℕ → Bool → ℕ → ℕ
-with_bit k value number = if value then bit_or number (2 ^ k) else bit_and number (2 ^ 64 - 1 - 2 ^ k)
+with_bit k value number =
+    if value then bit_or number (2 ^ k) else bit_and number (2 ^ 64 - 1 - 2 ^ k)
 
 -- the number whose bits are those of the list
 abbrev pub mask : List ℕ → ℕ

@@ -1,5 +1,6 @@
 -- The numbers that a script may give.
-use Rattle.std.specs.Prelude.{ℕ, ◌^◌, Bool, ◌&&◌, Option, Some, None, if◌then◌else◌, List, drop, nat_lt, nat_eq, codes}
+use Rattle.std.specs.Prelude.{ℕ, ◌^◌, Bool, ◌&&◌, Option, Some, None, if◌then◌else◌, List, drop}
+use Rattle.std.specs.Prelude.{nat_lt, nat_eq, codes}
 use Rattle.std.specs.List.{list_all, starts_with}
 use Rattle.std.specs.Char.{is_digit}
 use Rattle.std.specs.Str.Parse.{digits_value}

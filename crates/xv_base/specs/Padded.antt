@@ -14,6 +14,8 @@ pub record IsPadded (size : ℕ) (array : List ℕ) (len : ℕ) : Type 0 where
   pub zeros : padded size (take len array) ≡ array
 
 -- the list that such an array holds has that length
-pub length-take_padded : (size : ℕ) (array : List ℕ) (len : ℕ) → IsPadded size array len → length (take len array) ≡ len
+pub length-take_padded : (size : ℕ) (array : List ℕ) (len : ℕ) → IsPadded size array len
+    → length (take len array) ≡ len
 length-take_padded size array len padding =
-    let fits : len ≤ length array = omega (arith, padding.fits, padding.whole) in length-take-le len array fits
+    let fits : len ≤ length array = omega (arith, padding.fits, padding.whole) in
+    length-take-le len array fits

@@ -1,7 +1,9 @@
 -- The serial queues of a UART: input that it hasn't taken yet, and output that it sent.
-use Rattle.std.specs.Prelude.{ℕ, ◌+◌, ◌-◌, ◌^◌, ◌==◌, if◌then◌else◌, List, [], ◌∷◌, ◌++◌, length, drop, min}
+use Rattle.std.specs.Prelude.{ℕ, ◌+◌, ◌-◌, ◌^◌, ◌==◌, if◌then◌else◌, List, [], ◌∷◌, ◌++◌, length}
+use Rattle.std.specs.Prelude.{drop, min}
 
--- both in the order of their bytes, the oldest first; `lost` counts the sent bytes that were dropped
+-- both in the order of their bytes, the oldest first; `lost` counts the sent bytes that were
+-- dropped
 pub record Serial : Type 0 where
   pub queue : List ℕ
   pub kept : List ℕ

@@ -1,5 +1,6 @@
 -- Text in hexadecimal. Decimal text is the library's `decimal`.
-use Rattle.std.specs.Prelude.{ℕ, ◌+◌, ◌*◌, ◌/◌, ◌%◌, zero, suc, ◌&&◌, Option, Some, None, if◌then◌else◌, List, [], ◌∷◌, ◌++◌}
+use Rattle.std.specs.Prelude.{ℕ, ◌+◌, ◌*◌, ◌/◌, ◌%◌, zero, suc, ◌&&◌, Option, Some, None}
+use Rattle.std.specs.Prelude.{if◌then◌else◌, List, [], ◌∷◌, ◌++◌}
 use Rattle.std.specs.Char.{is_digit, digit_value, digit_char}
 use Rattle.std.specs.Option.{option_map}
 
@@ -27,7 +28,8 @@ pairs_value [] = Some []
 pairs_value (high ∷ []) = None
 pairs_value (high ∷ low ∷ others) =
     if is_digit high 16 && is_digit low 16
-    then option_map (λ bytes. (digit_value high * 16 + digit_value low) ∷ bytes) (pairs_value others)
+    then option_map (λ bytes. (digit_value high * 16 + digit_value low) ∷ bytes)
+    (pairs_value others)
     else None
 
 -- the same of one pair or more

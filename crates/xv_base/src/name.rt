@@ -2,7 +2,8 @@
 ghost use Rattle.std.specs.Prelude.{◌≡◌, Some, None, if◌then◌else◌, IsTrue};
 ghost use Rattle.std.specs.List.{list_all};
 ghost use Rattle.std.specs.Char.{is_ascii_graphic};
-ghost use Rattle.xv_base.specs.Name.{is_guest_byte, is_dev_byte, is_word, has_length, is_guest_name, is_dev_name, is_file_name};
+ghost use Rattle.xv_base.specs.Name.{is_guest_byte, is_dev_byte, is_word, has_length};
+ghost use Rattle.xv_base.specs.Name.{is_guest_name, is_dev_name, is_file_name};
 
 use crate::short::Short;
 use std::marker::Model;
@@ -37,7 +38,8 @@ impl GuestName {
     }
 }
 
-/// The name of a device's node, seen by contracts as its bytes: 1 to 63 of 0x21 to 0x7E, without `/`.
+/// The name of a device's node, seen by contracts as its bytes: 1 to 63 of 0x21 to 0x7E, without
+/// `/`.
 #[derive(Clone, Copy, Debug, PartialEq, Eq, Hash)]
 pub struct DevName {
     short: Short<63>,

@@ -1,5 +1,6 @@
 -- Tests and values over the numbers below a bound.
-use Rattle.std.specs.Prelude.{ℕ, zero, suc, Bool, false, ◌||◌, Option, Some, None, if◌then◌else◌, max}
+use Rattle.std.specs.Prelude.{ℕ, zero, suc, Bool, false, ◌||◌, Option, Some, None, if◌then◌else◌}
+use Rattle.std.specs.Prelude.{max}
 
 -- whether some number passes
 unfoldable pub some_below : (ℕ → Bool) → ℕ → Bool
@@ -18,4 +19,5 @@ least_below test (suc n) = or_else (least_below test n) (if test n then Some n e
 -- the greatest value of a number that passes, 0 where none does
 unfoldable pub greatest_below : (ℕ → Bool) → (ℕ → ℕ) → ℕ → ℕ
 greatest_below test value zero = 0
-greatest_below test value (suc n) = max (greatest_below test value n) (if test n then value n else 0)
+greatest_below test value (suc n) =
+    max (greatest_below test value n) (if test n then value n else 0)

@@ -1,5 +1,5 @@
--- The finisher: a device of one register, after SiFive's test finisher (device tree `sifive,test0`), by which
--- a guest halts or starts again.
+-- The finisher: a device of one register, after SiFive's test finisher (device tree
+-- `sifive,test0`), by which a guest halts or starts again.
 use Rattle.std.specs.Prelude.{ℕ, ◌/◌, ◌%◌, ◌^◌, ◌==◌, if◌then◌else◌}
 use Rattle.xv_bus.specs.declared.access.Access.{Access}
 use Rattle.xv_bus.specs.declared.access.Access.TheVariants.{Load, Store}
@@ -19,6 +19,7 @@ ended word =
 -- aligned accesses of four bytes alone; the register is at offset 0
 unfoldable pub finisher_outcome : ℕ → Access → Outcome
 finisher_outcome at (Load W4) = if at % 4 == 0 then Value 0 else Refused
-finisher_outcome at (Store W4 word) = if at % 4 == 0 then (if at == 0 then ended word else Done) else Refused
+finisher_outcome at (Store W4 word) =
+    if at % 4 == 0 then (if at == 0 then ended word else Done) else Refused
 finisher_outcome at (Load width) = Refused
 finisher_outcome at (Store width word) = Refused

@@ -1,5 +1,6 @@
 -- The memory of a guest, as a device reaches it.
-use Rattle.std.specs.Prelude.{ℕ, ◌+◌, Bool, Option, Some, None, if◌then◌else◌, List, [], ◌++◌, length, take, drop, option_and_then, slice_get, slice_set, unwrap_or}
+use Rattle.std.specs.Prelude.{ℕ, ◌+◌, Bool, Option, Some, None, if◌then◌else◌, List, [], ◌++◌}
+use Rattle.std.specs.Prelude.{length, take, drop, option_and_then, slice_get, slice_set, unwrap_or}
 use Rattle.std.specs.Option.{option_map}
 
 -- where the bytes of a range lie: a memory region by its number, and their offset in it
@@ -8,7 +9,8 @@ pub record Place : Type 0 where
   pub offset : ℕ
   pub writable : Bool
 
--- `find gpa len` is where the len bytes from gpa on lie, if they lie in one memory region; `cells` has the
+-- `find gpa len` is where the len bytes from gpa on lie, if they lie in one memory region; `cells`
+-- has the
 -- bytes of each region by its number
 pub record Flat : Type 0 where
   pub find : ℕ → ℕ → Option Place
@@ -28,13 +30,15 @@ overwritten bytes offset piece = take offset bytes ++ piece ++ drop (offset + le
 -- what a load of a range gives, none where it is answered false
 unfoldable pub bytes_at : Flat → ℕ → ℕ → Option (List ℕ)
 bytes_at flat gpa len =
-    option_map (λ place. take len (drop place.offset (region_bytes flat place.region))) (flat.find gpa len)
+    option_map (λ place. take len (drop place.offset (region_bytes flat place.region)))
+    (flat.find gpa len)
 
 -- the bytes of the regions after a piece is put at a place, unless it may not be written
 abbrev pub stored_at : Flat → List ℕ → Place → Option (List (List ℕ))
 stored_at flat piece place =
     if place.writable
-    then Some (slice_set flat.cells place.region (overwritten (region_bytes flat place.region) place.offset piece))
+    then Some (slice_set flat.cells place.region
+    (overwritten (region_bytes flat place.region) place.offset piece))
     else None
 
 -- the bytes of the regions after a store, none where it is answered false

@@ -1,7 +1,10 @@
--- The interrupt controller: an automaton after the RISC-V Platform-Level Interrupt Controller Specification
--- 1.0.0, with 63 sources, 7 levels of priority, and a context for each VCPU, at most 8. Masks have bit k for source
--- k, and no bit 0.
-use Rattle.std.specs.Prelude.{◌≡◌, ◌<◌, ◌≤◌, length, ℕ, ◌+◌, ◌-◌, ◌*◌, ◌/◌, ◌%◌, ◌^◌, ◌==◌, Bool, true, false, ◌&&◌, if◌then◌else◌, List, [], ◌∷◌, replicate, slice_index, slice_set, nat_le, nat_lt, bit_and, bit_or, Option, Some, None, unwrap_or}
+-- The interrupt controller: an automaton after the RISC-V Platform-Level Interrupt Controller
+-- Specification 1.0.0, with 63 sources, 7 levels of priority, and a context for each VCPU, at most
+-- 8. Masks have bit k for source k, and no bit 0.
+use Rattle.std.specs.Prelude.{◌≡◌, ◌<◌, ◌≤◌, length, ℕ, ◌+◌, ◌-◌, ◌*◌, ◌/◌, ◌%◌, ◌^◌, ◌==◌, Bool}
+use Rattle.std.specs.Prelude.{true, false, ◌&&◌, if◌then◌else◌, List, [], ◌∷◌, replicate}
+use Rattle.std.specs.Prelude.{slice_index, slice_set, nat_le, nat_lt, bit_and, bit_or, Option, Some}
+use Rattle.std.specs.Prelude.{None, unwrap_or}
 use Rattle.std.specs.Option.{option_map_or}
 use Rattle.xv_base.specs.Bits.{has_bit, with_bit}
 use Rattle.xv_bus.specs.declared.access.Access.{Access}
@@ -11,11 +14,13 @@ use Rattle.xv_bus.specs.declared.access.Width.TheVariants.{W4}
 use Rattle.xv_bus.specs.declared.registers.Half.{Half}
 use Rattle.xv_bus.specs.declared.registers.Half.TheVariants.{Low, High}
 use Rattle.xv_bus.specs.declared.registers.PlicRegister.{PlicRegister}
-use Rattle.xv_bus.specs.declared.registers.PlicRegister.TheVariants.{Priority, Pending, Enables, Threshold, Claim}
+use Rattle.xv_bus.specs.declared.registers.PlicRegister.TheVariants.{Priority, Pending, Enables}
+use Rattle.xv_bus.specs.declared.registers.PlicRegister.TheVariants.{Threshold, Claim}
 use Rattle.xv_bus.specs.Below.{some_below, least_below, greatest_below}
 use Rattle.xv_bus.specs.Device.{Answer, answer}
 
--- `priority` has 64 numbers, the first of no source; `enables` and `threshold` have 8, of which the first
+-- `priority` has 64 numbers, the first of no source; `enables` and `threshold` have 8, of which the
+-- first
 -- `contexts` are in use
 pub record PlicUnit : Type 0 where
   pub contexts : ℕ
@@ -51,7 +56,8 @@ threshold_of plic context = slice_index plic.threshold context
 
 -- ---- the gateways (chapter Interrupt Gateways)
 
--- the sources whose lines are up become pending, but for those in service; a line that falls changes nothing
+-- the sources whose lines are up become pending, but for those in service; a line that falls
+-- changes nothing
 unfoldable pub lifted : ℕ → PlicUnit → PlicUnit
 lifted lines plic =
     record plic { pending = bit_or plic.pending (bit_and lines (2 ^ 64 - 1 - plic.in_service)) }
@@ -89,20 +95,25 @@ claim plic context =
 -- what is claimed is in service, and pending no more
 abbrev pub claimed : PlicUnit → ℕ → PlicUnit
 claimed plic id =
-    record plic { pending = with_bit id false plic.pending; in_service = with_bit id true plic.in_service }
+    record plic {
+      pending = with_bit id false plic.pending;
+      in_service = with_bit id true plic.in_service;
+    }
 
 -- an id that the context may complete: enabled for it, and in service
 abbrev pub is_served : PlicUnit → ℕ → ℕ → Bool
-is_served plic context id = nat_lt id 64 && has_bit id (enables_of plic context) && has_bit id plic.in_service
+is_served plic context id =
+    nat_lt id 64 && has_bit id (enables_of plic context) && has_bit id plic.in_service
 
 abbrev pub completed : PlicUnit → ℕ → ℕ → PlicUnit
 completed plic context id =
-    if is_served plic context id then record plic { in_service = with_bit id false plic.in_service } else plic
+    if is_served plic context id
+    then record plic { in_service = with_bit id false plic.in_service } else plic
 
 -- ---- registers (chapter Memory Map)
 
--- an offset is that of one of `count` registers, the first at the offset `first` and each `stride` behind the
--- one before
+-- an offset is that of one of `count` registers, the first at the offset `first` and each `stride`
+-- behind the one before
 abbrev pub is_within : (first stride count at : ℕ) → Bool
 is_within first stride count at =
     nat_le first at && (at - first) % stride == 0 && nat_lt ((at - first) / stride) count
@@ -152,7 +163,10 @@ with_half High value mask = mask % 2 ^ 32 + value * 2 ^ 32
 -- the enables of a context, with one half written; bit 0 stays 0
 abbrev pub with_enables : ℕ → Half → ℕ → PlicUnit → PlicUnit
 with_enables context half value plic =
-    record plic { enables = slice_set plic.enables context (with_bit 0 false (with_half half value (enables_of plic context))) }
+    record plic {
+      enables = slice_set plic.enables context
+          (with_bit 0 false (with_half half value (enables_of plic context)));
+    }
 
 -- what a read gives
 unfoldable pub plic_shown : PlicUnit → PlicRegister → ℕ
@@ -170,19 +184,23 @@ plic_after_read plic (Enables context half) = plic
 plic_after_read plic (Threshold context) = plic
 plic_after_read plic (Claim context) = option_map_or (claimed plic) (claim plic context) plic
 
--- what a write leaves: priorities and thresholds keep 3 bits, and a write of a claim register completes
+-- what a write leaves: priorities and thresholds keep 3 bits, and a write of a claim register
+-- completes
 unfoldable pub plic_written : PlicUnit → PlicRegister → ℕ → PlicUnit
-plic_written plic (Priority id) value = record plic { priority = slice_set plic.priority id (value % 2 ^ 3) }
+plic_written plic (Priority id) value =
+    record plic { priority = slice_set plic.priority id (value % 2 ^ 3) }
 plic_written plic (Pending half) value = plic
 plic_written plic (Enables context half) value = with_enables context half value plic
-plic_written plic (Threshold context) value = record plic { threshold = slice_set plic.threshold context (value % 2 ^ 3) }
+plic_written plic (Threshold context) value =
+    record plic { threshold = slice_set plic.threshold context (value % 2 ^ 3) }
 plic_written plic (Claim context) value = completed plic context value
 
 -- ---- accesses
 
 abbrev pub load_answer : PlicUnit → Option PlicRegister → Answer PlicUnit
 load_answer plic None = answer plic (Value 0)
-load_answer plic (Some register) = answer (plic_after_read plic register) (Value (plic_shown plic register))
+load_answer plic (Some register) =
+    answer (plic_after_read plic register) (Value (plic_shown plic register))
 
 abbrev pub store_answer : PlicUnit → ℕ → Option PlicRegister → Answer PlicUnit
 store_answer plic value None = answer plic Done
@@ -208,15 +226,17 @@ plic_accessed plic at (Store width value) = answer plic Refused
 
 -- ---- what the controller can hold
 
--- each mask without bit 0, priorities and thresholds of 3 bits, no priority of no source, and zeros for the
--- contexts that aren't there
+-- each mask without bit 0, priorities and thresholds of 3 bits, no priority of no source, and zeros
+-- for the contexts that aren't there
 pub record IsPlic (plic : PlicUnit) : Type 0 where
   pub contexts : plic.contexts ≤ 8
-  pub lengths : (length plic.priority ≡ 64) × (length plic.enables ≡ 8) × (length plic.threshold ≡ 8)
+  pub lengths : (length plic.priority ≡ 64) × (length plic.enables ≡ 8)
+      × (length plic.threshold ≡ 8)
   pub no_source : priority_of plic 0 ≡ 0
   pub priority : (id : ℕ) → priority_of plic id < 2 ^ 3
   pub pending : has_bit 0 plic.pending ≡ false
   pub in_service : has_bit 0 plic.in_service ≡ false
   pub enables : (context : ℕ) → has_bit 0 (enables_of plic context) ≡ false
   pub threshold : (context : ℕ) → threshold_of plic context < 2 ^ 3
-  pub absent : (context : ℕ) → plic.contexts ≤ context → (enables_of plic context ≡ 0) × (threshold_of plic context ≡ 0)
+  pub absent : (context : ℕ) → plic.contexts ≤ context → (enables_of plic context ≡ 0)
+      × (threshold_of plic context ≡ 0)

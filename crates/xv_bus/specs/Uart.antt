@@ -1,7 +1,10 @@
--- The UART: an automaton after the 16550 (National Semiconductor PC16550D, June 1995). Its baud rate, parity,
--- framing and breaks are those of no line, so its divisor and its line control are kept and do nothing but for
--- DLAB. Bytes that it receives come from a queue of input, and bytes that it sends are kept.
-use Rattle.std.specs.Prelude.{◌<◌, ◌≤◌, IsTrue, ℕ, ◌+◌, ◌-◌, ◌/◌, ◌%◌, ◌^◌, ◌==◌, Bool, true, false, not, ◌&&◌, ◌||◌, if◌then◌else◌, List, [], ◌∷◌, ◌++◌, length, take, drop, slice_index, nat_le, nat_lt, bit_or, Option, Some, None}
+-- The UART: an automaton after the 16550 (National Semiconductor PC16550D, June 1995). Its baud
+-- rate, parity, framing and breaks are those of no line, so its divisor and its line control are
+-- kept and do nothing but for DLAB. Bytes that it receives come from a queue of input, and bytes
+-- that it sends are kept.
+use Rattle.std.specs.Prelude.{◌<◌, ◌≤◌, IsTrue, ℕ, ◌+◌, ◌-◌, ◌/◌, ◌%◌, ◌^◌, ◌==◌, Bool, true, false}
+use Rattle.std.specs.Prelude.{not, ◌&&◌, ◌||◌, if◌then◌else◌, List, [], ◌∷◌, ◌++◌, length, take}
+use Rattle.std.specs.Prelude.{drop, slice_index, nat_le, nat_lt, bit_or, Option, Some, None}
 use Rattle.std.specs.List.{list_any}
 use Rattle.xv_base.specs.Bits.{has_bit}
 use Rattle.xv_base.specs.Serial.{Serial, sent, received}
@@ -11,10 +14,14 @@ use Rattle.xv_bus.specs.declared.access.Outcome.TheVariants.{Value, Done, Refuse
 use Rattle.xv_bus.specs.declared.access.Width.TheVariants.{W1}
 use Rattle.xv_bus.specs.declared.registers.Modem.{Modem}
 use Rattle.xv_bus.specs.declared.registers.UartRegister.{UartRegister}
-use Rattle.xv_bus.specs.declared.registers.UartRegister.TheVariants.{Data, InterruptEnable, InterruptIdent, LineControl, ModemControl, LineStatus, ModemStatus, Scratch}
+use Rattle.xv_bus.specs.declared.registers.UartRegister.TheVariants.{Data, InterruptEnable}
+use Rattle.xv_bus.specs.declared.registers.UartRegister.TheVariants.{InterruptIdent, LineControl}
+use Rattle.xv_bus.specs.declared.registers.UartRegister.TheVariants.{ModemControl, LineStatus}
+use Rattle.xv_bus.specs.declared.registers.UartRegister.TheVariants.{ModemStatus, Scratch}
 use Rattle.xv_bus.specs.Device.{Answer, answer}
 
--- `shift` is log 2 of the distance of the registers; `msr` is bits 3:0 of the modem status register, and
+-- `shift` is log 2 of the distance of the registers; `msr` is bits 3:0 of the modem status
+-- register, and
 -- `fifo` is what was received, the oldest first
 pub record UartPort : Type 0 where
   pub shift : ℕ
@@ -93,7 +100,8 @@ flag k value = if value then 2 ^ k else 0
 abbrev pub fifo_size : Bool → ℕ
 fifo_size on = if on then 16 else 1
 
--- a byte comes while there is no room (8.4, bit 1): with FIFOs on it is lost, else it replaces the one that is held
+-- a byte comes while there is no room (8.4, bit 1): with FIFOs on it is lost, else it replaces the
+-- one that is held
 abbrev pub overrun_by : ℕ → UartPort → UartPort
 overrun_by byte port =
     record port { overrun = true; fifo = if port.fifo_on then port.fifo else byte ∷ [] }
@@ -143,7 +151,12 @@ controlled port fcr =
 abbrev pub modem : ℕ → Modem
 modem mcr =
     if has_bit 4 mcr
-    then record { cts = has_bit 1 mcr; dsr = has_bit 0 mcr; ri = has_bit 2 mcr; dcd = has_bit 3 mcr }
+    then record {
+      cts = has_bit 1 mcr;
+      dsr = has_bit 0 mcr;
+      ri = has_bit 2 mcr;
+      dcd = has_bit 3 mcr;
+    }
     else record { cts = true; dsr = true; ri = false; dcd = true }
 
 -- the inputs as bits 7:4 of the modem status register
@@ -156,7 +169,8 @@ differ old new = if old then not new else new
 -- what has changed, as bits 3:0: DCTS, DDSR, TERI, which is RI from 1 to 0, and DDCD
 abbrev pub change_bits : Modem → Modem → ℕ
 change_bits old new =
-    flag 0 (differ old.cts new.cts) + flag 1 (differ old.dsr new.dsr) + flag 2 (old.ri && not new.ri) + flag 3 (differ old.dcd new.dcd)
+    flag 0 (differ old.cts new.cts) + flag 1 (differ old.dsr new.dsr) + flag 2
+    (old.ri && not new.ri) + flag 3 (differ old.dcd new.dcd)
 
 abbrev pub modem_controlled : UartPort → ℕ → UartPort
 modem_controlled port mcr =
@@ -171,7 +185,8 @@ is_status_due port = has_bit 2 port.ier && port.overrun
 -- received data: a byte, and with FIFOs on as many as the trigger level
 abbrev pub is_data_due : UartPort → Bool
 is_data_due port =
-    has_bit 0 port.ier && not (length port.fifo == 0) && (not port.fifo_on || nat_le port.trigger (length port.fifo))
+    has_bit 0 port.ier && not (length port.fifo == 0)
+    && (not port.fifo_on || nat_le port.trigger (length port.fifo))
 
 -- character timeout: bytes below the trigger level; no time passes, so it is due at once
 abbrev pub is_timeout_due : UartPort → Bool
@@ -244,7 +259,8 @@ after_read port Scratch = port
 -- a byte is sent, with loop back to the FIFO; the transmitter is empty again at once
 unfoldable pub transmitted : UartPort → ℕ → UartPort
 transmitted port byte =
-    record (if is_loop port then arrived byte port else record port { serial = sent byte port.serial }) { thre = true }
+    record (if is_loop port then arrived byte port
+    else record port { serial = sent byte port.serial }) { thre = true }
 
 -- where the interrupt of the empty transmitter is enabled anew, it is pending
 abbrev pub enabled : UartPort → ℕ → UartPort
@@ -252,8 +268,10 @@ enabled port ier =
     record port { ier = ier; thre = port.thre || (has_bit 1 ier && not (has_bit 1 port.ier)) }
 
 unfoldable pub written : UartPort → UartRegister → ℕ → UartPort
-written port Data value = if has_dlab port then record port { dll = value } else transmitted port value
-written port InterruptEnable value = if has_dlab port then record port { dlm = value } else enabled port (value % 2 ^ 4)
+written port Data value =
+    if has_dlab port then record port { dll = value } else transmitted port value
+written port InterruptEnable value =
+    if has_dlab port then record port { dlm = value } else enabled port (value % 2 ^ 4)
 written port InterruptIdent value = controlled port value
 written port LineControl value = record port { lcr = value }
 written port ModemControl value = modem_controlled port (value % 2 ^ 5)

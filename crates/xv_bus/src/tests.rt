@@ -1,5 +1,6 @@
 //! A device that reads and writes the guest's memory in one access.
-ghost use Rattle.std.specs.Prelude.{◌≡◌, ◌+◌, ◌≤◌, ◌∷◌, [], nat_le, if◌then◌else◌, true, Some, None, length};
+ghost use Rattle.std.specs.Prelude.{◌≡◌, ◌+◌, ◌≤◌, ◌∷◌, [], nat_le, if◌then◌else◌, true, Some};
+ghost use Rattle.std.specs.Prelude.{None, length};
 ghost use Rattle.xv_bus.specs.Memory.{overwritten};
 
 use crate::*;

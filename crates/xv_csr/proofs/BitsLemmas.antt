@@ -10,7 +10,8 @@ abbrev pub masked : ℕ → ℕ → ℕ → ℕ
 masked mask fixed number = bit_or (bit_and number mask) fixed
 
 -- a part of a mask meets nothing that the mask doesn't meet
-disjoint : (mask fixed number : ℕ) → bit_and mask fixed ≡ 0 → bit_and (bit_and number mask) fixed ≡ 0
+disjoint : (mask fixed number : ℕ) → bit_and mask fixed ≡ 0
+    → bit_and (bit_and number mask) fixed ≡ 0
 disjoint mask fixed number apart = same_from_bits _ _ (λ i.
     let outer = bit_at_and (bit_and number mask) fixed i in
     let inner = bit_at_and number mask i in
@@ -20,7 +21,8 @@ disjoint mask fixed number apart = same_from_bits _ _ (λ i.
     omega (arith, outer, inner, both, none, zero))
 
 -- where no fixed bit lies in the mask the fixed bits are added
-pub masked-add : (mask fixed number : ℕ) → bit_and mask fixed ≡ 0 → masked mask fixed number ≡ bit_and number mask + fixed
+pub masked-add : (mask fixed number : ℕ) → bit_and mask fixed ≡ 0
+    → masked mask fixed number ≡ bit_and number mask + fixed
 masked-add mask fixed number apart =
     or_disjoint (bit_and number mask) fixed (disjoint mask fixed number apart)
 
@@ -28,7 +30,8 @@ pub and-and : (mask number : ℕ) → bit_and (bit_and number mask) mask ≡ bit
 and-and mask number = same_from_bits _ _ (λ i.
     rw (bit_at_and (bit_and number mask) mask i, bit_at_and number mask i) (omega arith))
 
-pub masked-masked : (mask fixed number : ℕ) → masked mask fixed (masked mask fixed number) ≡ masked mask fixed number
+pub masked-masked : (mask fixed number : ℕ)
+    → masked mask fixed (masked mask fixed number) ≡ masked mask fixed number
 masked-masked mask fixed number = same_from_bits _ _ (λ i.
     let outer = bit_at_or (bit_and (masked mask fixed number) mask) fixed i in
     let middle = bit_at_and (masked mask fixed number) mask i in
@@ -37,7 +40,8 @@ masked-masked mask fixed number = same_from_bits _ _ (λ i.
     omega (arith, outer, middle, inner, core))
 
 -- a bit of the mask may be set
-pub masked-set : (mask fixed number part : ℕ) → masked mask fixed number ≡ number → bit_and part mask ≡ part → masked mask fixed (bit_or number part) ≡ bit_or number part
+pub masked-set : (mask fixed number part : ℕ) → masked mask fixed number ≡ number
+    → bit_and part mask ≡ part → masked mask fixed (bit_or number part) ≡ bit_or number part
 masked-set mask fixed number part same inside = same_from_bits _ _ (λ i.
     let outer = bit_at_or (bit_and (bit_or number part) mask) fixed i in
     let middle = bit_at_and (bit_or number part) mask i in
@@ -50,7 +54,9 @@ masked-set mask fixed number part same inside = same_from_bits _ _ (λ i.
     omega (arith, outer, middle, inner, before, core, kept, of_part, at_part))
 
 -- a bit that isn't fixed may be cleared
-pub masked-clear : (mask fixed number others : ℕ) → masked mask fixed number ≡ number → bit_and fixed others ≡ fixed → masked mask fixed (bit_and number others) ≡ bit_and number others
+pub masked-clear : (mask fixed number others : ℕ) → masked mask fixed number ≡ number
+    → bit_and fixed others ≡ fixed
+    → masked mask fixed (bit_and number others) ≡ bit_and number others
 masked-clear mask fixed number others same inside = same_from_bits _ _ (λ i.
     let outer = bit_at_or (bit_and (bit_and number others) mask) fixed i in
     let middle = bit_at_and (bit_and number others) mask i in

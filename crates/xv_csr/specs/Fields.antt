@@ -43,8 +43,8 @@ fiom_bit = 0
 
 -- ---- pc and sepc (4.1.7)
 
--- an instruction's address is a multiple of so many bytes: IALIGN (Unprivileged ISA 20191213, section 1.5)
--- is 32 bits, since there are no compressed instructions
+-- an instruction's address is a multiple of so many bytes: IALIGN (Unprivileged ISA 20191213,
+-- section 1.5) is 32 bits, since there are no compressed instructions
 abbrev pub instruction_alignment : ℕ
 instruction_alignment = 4
 

@@ -1,18 +1,22 @@
--- What each supervisor CSR keeps of a value that is written to it (Privileged Architecture 20211203,
--- section 4.1). A bit that isn't kept reads as 0, but for the read-only UXL of sstatus.
-use Rattle.std.specs.Prelude.{◌≡◌, ℕ, ◌+◌, ◌*◌, ◌/◌, ◌%◌, ◌^◌, ◌==◌, if◌then◌else◌, [], ◌∷◌, bit_and}
+-- What each supervisor CSR keeps of a value that is written to it (Privileged Architecture
+-- 20211203, section 4.1). A bit that isn't kept reads as 0, but for the read-only UXL of sstatus.
+use Rattle.std.specs.Prelude.{◌≡◌, ℕ, ◌+◌, ◌*◌, ◌/◌, ◌%◌, ◌^◌, ◌==◌, if◌then◌else◌, [], ◌∷◌}
+use Rattle.std.specs.Prelude.{bit_and}
 use Rattle.xv_csr.specs.declared.SCsrs.{SCsrs}
 use Rattle.xv_base.specs.Bits.{mask}
 use Rattle.xv_csr.specs.Cause.{software_interrupt, timer_interrupt, external_interrupt}
-use Rattle.xv_csr.specs.Fields.{sie_bit, spie_bit, spp_bit, sum_bit, mxr_bit, uxl, vectored, tm_bit, fiom_bit, instruction_alignment}
+use Rattle.xv_csr.specs.Fields.{sie_bit, spie_bit, spp_bit, sum_bit, mxr_bit, uxl, vectored, tm_bit}
+use Rattle.xv_csr.specs.Fields.{fiom_bit, instruction_alignment}
 
 -- sstatus (4.1.1): SIE, SPIE, SPP, SUM and MXR, beside the read-only UXL
 unfoldable pub kept_sstatus : ℕ → ℕ
-kept_sstatus value = bit_and value (mask (sie_bit ∷ spie_bit ∷ spp_bit ∷ sum_bit ∷ mxr_bit ∷ [])) + uxl
+kept_sstatus value =
+    bit_and value (mask (sie_bit ∷ spie_bit ∷ spp_bit ∷ sum_bit ∷ mxr_bit ∷ [])) + uxl
 
 -- sie (4.1.3)
 unfoldable pub kept_sie : ℕ → ℕ
-kept_sie value = bit_and value (mask (software_interrupt ∷ timer_interrupt ∷ external_interrupt ∷ []))
+kept_sie value =
+    bit_and value (mask (software_interrupt ∷ timer_interrupt ∷ external_interrupt ∷ []))
 
 -- stvec (4.1.2): BASE 63:2, and the mode, vectored or else 0 (direct)
 unfoldable pub kept_stvec : ℕ → ℕ
@@ -30,8 +34,8 @@ kept_senvcfg value = bit_and value (mask (fiom_bit ∷ []))
 unfoldable pub kept_sepc : ℕ → ℕ
 kept_sepc value = value / instruction_alignment * instruction_alignment
 
--- satp (4.1.11): PPN 43:0 where MODE 63:60 is 0 (Bare). Any other MODE has no effect at all: Sv39, 8, isn't
--- supported yet
+-- satp (4.1.11): PPN 43:0 where MODE 63:60 is 0 (Bare). Any other MODE has no effect at all: Sv39,
+-- 8, isn't supported yet
 unfoldable pub kept_satp : ℕ → ℕ → ℕ
 kept_satp old value = if value / 2 ^ 60 == 0 then value % 2 ^ 44 else old
 

@@ -1,13 +1,17 @@
 -- The supervisor CSRs by number: which there are, what a read gives and what a write leaves.
-use Rattle.std.specs.Prelude.{ℕ, ◌==◌, Bool, true, false, if◌then◌else◌, List, [], ◌∷◌, Option, Some, None, option_and_then}
+use Rattle.std.specs.Prelude.{ℕ, ◌==◌, Bool, true, false, if◌then◌else◌, List, [], ◌∷◌, Option}
+use Rattle.std.specs.Prelude.{Some, None, option_and_then}
 use Rattle.xv_csr.specs.declared.SCsrs.{SCsrs}
 use Rattle.xv_csr.specs.declared.Lines.{Lines}
 use Rattle.xv_csr.specs.declared.Register.{Register}
-use Rattle.xv_csr.specs.declared.Register.TheVariants.{Sstatus, Sie, Stvec, Scounteren, Senvcfg, Sscratch, Sepc, Scause, Stval, Sip, Satp, Time}
+use Rattle.xv_csr.specs.declared.Register.TheVariants.{Sstatus, Sie, Stvec, Scounteren, Senvcfg}
+use Rattle.xv_csr.specs.declared.Register.TheVariants.{Sscratch, Sepc, Scause, Stval, Sip, Satp}
+use Rattle.xv_csr.specs.declared.Register.TheVariants.{Time}
 use Rattle.xv_base.specs.Bits.{has_bit}
 use Rattle.xv_csr.specs.Cause.{software_interrupt}
 use Rattle.xv_csr.specs.Fields.{tm_bit}
-use Rattle.xv_csr.specs.Kept.{kept_sstatus, kept_sie, kept_stvec, kept_scounteren, kept_senvcfg, kept_sepc, kept_satp}
+use Rattle.xv_csr.specs.Kept.{kept_sstatus, kept_sie, kept_stvec, kept_scounteren, kept_senvcfg}
+use Rattle.xv_csr.specs.Kept.{kept_sepc, kept_satp}
 use Rattle.xv_csr.specs.Pending.{sip_of}
 
 -- number and register (Privileged Architecture 20211203, section 2.2)
@@ -20,7 +24,8 @@ rows =
 -- the register that has the number among the rows
 abbrev pub register_among : List (ℕ × Register) → ℕ → Option Register
 register_among [] number = None
-register_among (row ∷ others) number = if row.0 == number then Some row.1 else register_among others number
+register_among (row ∷ others) number =
+    if row.0 == number then Some row.1 else register_among others number
 
 unfoldable pub register_of : ℕ → Option Register
 register_of number = register_among rows number
@@ -64,9 +69,11 @@ register_written csrs value Time = None
 -- what a read of a CSR by its number gives in U or in S, or none where it is refused
 unfoldable pub csr_read : SCsrs → ℕ → Bool → Lines → ℕ → Option ℕ
 csr_read csrs number user lines time =
-    option_and_then (λ register. if may_read csrs user register then Some (register_read csrs lines time register) else None) (register_of number)
+    option_and_then (λ register. if may_read csrs user register
+    then Some (register_read csrs lines time register) else None) (register_of number)
 
 -- what a write of a CSR by its number leaves, or none where it is refused: always in U
 unfoldable pub csr_written : SCsrs → ℕ → Bool → ℕ → Option SCsrs
 csr_written csrs number user value =
-    if user then None else option_and_then (λ register. register_written csrs value register) (register_of number)
+    if user then None else option_and_then (λ register. register_written csrs value register)
+    (register_of number)

@@ -1,20 +1,48 @@
 //! The bits of the supervisor CSRs that have names of their own.
+//!
+//! Constants and lists stand here by hand, since `bitflag_items!` would write fourteen operators with
+//! them that nothing calls, each to be proved at every check.
 ghost use Rattle.std.specs.Prelude.{⊤, ◌^◌, [], ◌∷◌, codes};
 
-use bitflags::{Flag, Flags, bitflag_items};
+use bitflags::{Flag, Flags};
 
 /// Bits of sstatus (Privileged Architecture 20211203, section 4.1.1).
 #[derive(Clone, Copy, Debug, PartialEq, Eq)]
 pub struct Sstatus(u64);
 
-bitflag_items! {
-    impl Sstatus: u64 {
-        const SIE = 0x2;
-        const SPIE = 0x20;
-        const SPP = 0x100;
-        const SUM = 0x4_0000;
-        const MXR = 0x8_0000;
-    }
+impl Sstatus {
+    pub const SIE: Sstatus = Sstatus(0x2);
+
+    pub const SPIE: Sstatus = Sstatus(0x20);
+
+    pub const SPP: Sstatus = Sstatus(0x100);
+
+    pub const SUM: Sstatus = Sstatus(0x4_0000);
+
+    pub const MXR: Sstatus = Sstatus(0x8_0000);
+
+    pub const FLAGS: &'static [Flag<Sstatus>] = &[
+        Flag {
+            name: "SIE",
+            value: Sstatus::SIE,
+        },
+        Flag {
+            name: "SPIE",
+            value: Sstatus::SPIE,
+        },
+        Flag {
+            name: "SPP",
+            value: Sstatus::SPP,
+        },
+        Flag {
+            name: "SUM",
+            value: Sstatus::SUM,
+        },
+        Flag {
+            name: "MXR",
+            value: Sstatus::MXR,
+        },
+    ];
 }
 
 impl Flags for Sstatus {
@@ -43,12 +71,27 @@ impl Flags for Sstatus {
 #[derive(Clone, Copy, Debug, PartialEq, Eq)]
 pub struct Interrupts(u64);
 
-bitflag_items! {
-    impl Interrupts: u64 {
-        const SOFTWARE = 0x2;
-        const TIMER = 0x20;
-        const EXTERNAL = 0x200;
-    }
+impl Interrupts {
+    pub const SOFTWARE: Interrupts = Interrupts(0x2);
+
+    pub const TIMER: Interrupts = Interrupts(0x20);
+
+    pub const EXTERNAL: Interrupts = Interrupts(0x200);
+
+    pub const FLAGS: &'static [Flag<Interrupts>] = &[
+        Flag {
+            name: "SOFTWARE",
+            value: Interrupts::SOFTWARE,
+        },
+        Flag {
+            name: "TIMER",
+            value: Interrupts::TIMER,
+        },
+        Flag {
+            name: "EXTERNAL",
+            value: Interrupts::EXTERNAL,
+        },
+    ];
 }
 
 impl Flags for Interrupts {

@@ -1,6 +1,7 @@
 //! What each register keeps of a value that is written to it.
 ghost use Rattle.std.specs.Prelude.{◌≡◌};
-ghost use Rattle.xv_csr.specs.Kept.{kept_sstatus, kept_sie, kept_stvec, kept_scounteren, kept_senvcfg, kept_sepc, kept_satp};
+ghost use Rattle.xv_csr.specs.Kept.{kept_sstatus, kept_sie, kept_stvec, kept_scounteren};
+ghost use Rattle.xv_csr.specs.Kept.{kept_senvcfg, kept_sepc, kept_satp};
 
 use crate::flags::{Interrupts, Sstatus};
 use bitflags::Flags;

@@ -1,6 +1,6 @@
 //! The supervisor's control and status registers of one VCPU (Privileged Architecture 20211203,
-//! section 4.1), the counter `time` (Unprivileged ISA 20191213, chapter 10), and the causes of traps.
-//! The definitions of trap entry, trap return and the choice of an interrupt stand here too.
+//! section 4.1), the counter `time` (Unprivileged ISA 20191213, chapter 10), and the causes of
+//! traps. The definitions of trap entry, trap return and the choice of an interrupt stand here too.
 //!
 //! What of the standard is this project's profile: the ASID of satp reads 0 and its MODE is Bare,
 //! since Sv39 isn't built; the A and D bits of table entries are never set by the hart; `cycle` and
@@ -17,7 +17,8 @@ ghost use Rattle.std.specs.Prelude.{◌≡◌, false, is_some, unwrap_or};
 ghost use Rattle.xv_csr.specs.Kept.{IsKept};
 ghost use Rattle.xv_csr.specs.Pending.{sip_of, pending};
 ghost use Rattle.xv_csr.specs.Reset.{reset_csrs};
-ghost use Rattle.xv_csr.specs.Table.{csr_read, csr_written, may_read, register_of, register_read, register_written};
+ghost use Rattle.xv_csr.specs.Table.{csr_read, csr_written, may_read, register_of, register_read};
+ghost use Rattle.xv_csr.specs.Table.{register_written};
 
 use cause::{EXTERNAL_INTERRUPT, SOFTWARE_INTERRUPT, TIMER_INTERRUPT};
 pub use flags::{Interrupts, Sstatus};

@@ -2,7 +2,21 @@
 use Rattle.std.proofs.Common.{◌≡◌, ℕ, Bool, true, false, not, ltb, List, None, refl}
 use Rattle.xv_isa.specs.declared.instruction.Insn.{Insn}
 use Rattle.xv_isa.specs.declared.rows.Op.{Op}
-use Rattle.xv_isa.specs.declared.rows.Op.TheVariants.{Lui, Auipc, Jal, Jalr, Beq, Bne, Blt, Bge, Bltu, Bgeu, Lb, Lh, Lw, Ld, Lbu, Lhu, Lwu, Sb, Sh, Sw, Sd, Addi, Slti, Sltiu, Xori, Ori, Andi, Slli, Srli, Srai, Addiw, Slliw, Srliw, Sraiw, Add, Sll, Slt, Sltu, Xor, Srl, Or, And, Sub, Sra, Mul, Mulh, Mulhsu, Mulhu, Div, Divu, Rem, Remu, Addw, Sllw, Srlw, Subw, Sraw, Mulw, Divw, Divuw, Remw, Remuw, Fence, FenceI, Ecall, Ebreak, Sret, Wfi, SfenceVma, Csrrw, Csrrs, Csrrc, Csrrwi, Csrrsi, Csrrci, LrW, LrD, ScW, ScD, AmoswapW, AmoswapD, AmoaddW, AmoaddD, AmoxorW, AmoxorD, AmoandW, AmoandD, AmoorW, AmoorD, AmominW, AmominD, AmomaxW, AmomaxD, AmominuW, AmominuD, AmomaxuW, AmomaxuD}
+use Rattle.xv_isa.specs.declared.rows.Op.TheVariants.{Lui, Auipc, Jal, Jalr, Beq, Bne, Blt, Bge}
+use Rattle.xv_isa.specs.declared.rows.Op.TheVariants.{Bltu, Bgeu, Lb, Lh, Lw, Ld, Lbu, Lhu, Lwu, Sb}
+use Rattle.xv_isa.specs.declared.rows.Op.TheVariants.{Sh, Sw, Sd, Addi, Slti, Sltiu, Xori, Ori}
+use Rattle.xv_isa.specs.declared.rows.Op.TheVariants.{Andi, Slli, Srli, Srai, Addiw, Slliw, Srliw}
+use Rattle.xv_isa.specs.declared.rows.Op.TheVariants.{Sraiw, Add, Sll, Slt, Sltu, Xor, Srl, Or, And}
+use Rattle.xv_isa.specs.declared.rows.Op.TheVariants.{Sub, Sra, Mul, Mulh, Mulhsu, Mulhu, Div, Divu}
+use Rattle.xv_isa.specs.declared.rows.Op.TheVariants.{Rem, Remu, Addw, Sllw, Srlw, Subw, Sraw, Mulw}
+use Rattle.xv_isa.specs.declared.rows.Op.TheVariants.{Divw, Divuw, Remw, Remuw, Fence, FenceI}
+use Rattle.xv_isa.specs.declared.rows.Op.TheVariants.{Ecall, Ebreak, Sret, Wfi, SfenceVma, Csrrw}
+use Rattle.xv_isa.specs.declared.rows.Op.TheVariants.{Csrrs, Csrrc, Csrrwi, Csrrsi, Csrrci, LrW}
+use Rattle.xv_isa.specs.declared.rows.Op.TheVariants.{LrD, ScW, ScD, AmoswapW, AmoswapD, AmoaddW}
+use Rattle.xv_isa.specs.declared.rows.Op.TheVariants.{AmoaddD, AmoxorW, AmoxorD, AmoandW, AmoandD}
+use Rattle.xv_isa.specs.declared.rows.Op.TheVariants.{AmoorW, AmoorD, AmominW, AmominD, AmomaxW}
+use Rattle.xv_isa.specs.declared.rows.Op.TheVariants.{AmomaxD, AmominuW, AmominuD, AmomaxuW}
+use Rattle.xv_isa.specs.declared.rows.Op.TheVariants.{AmomaxuD}
 use Rattle.xv_isa.specs.Effects.{branch_if, effect, effect_of, equal, below_signed, register}
 use Rattle.xv_isa.specs.Rows.{operation_at}
 use Rattle.xv_emul.specs.Emulation.{access_of, plain_of}
@@ -25,7 +39,8 @@ pub record IsNoPlain (o : Op) : Type 0 where
   pub not_sw : o ≡ Sw → ⊥
   pub not_sd : o ≡ Sd → ⊥
 
-by_operation : (o : Op) → IsNoPlain o → (i : Insn) (rs : List ℕ) → plain_of (effect o i rs 0 0) ≡ None
+by_operation : (o : Op) → IsNoPlain o → (i : Insn) (rs : List ℕ)
+    → plain_of (effect o i rs 0 0) ≡ None
 by_operation Lui nothing i rs = refl
 by_operation Auipc nothing i rs = refl
 by_operation Jal nothing i rs = refl
@@ -33,7 +48,8 @@ by_operation Jalr nothing i rs = refl
 by_operation Beq nothing i rs = branch_none (equal (register rs i.rs1) (register rs i.rs2)) i
 by_operation Bne nothing i rs = branch_none (not (equal (register rs i.rs1) (register rs i.rs2))) i
 by_operation Blt nothing i rs = branch_none (below_signed (register rs i.rs1) (register rs i.rs2)) i
-by_operation Bge nothing i rs = branch_none (not (below_signed (register rs i.rs1) (register rs i.rs2))) i
+by_operation Bge nothing i rs =
+    branch_none (not (below_signed (register rs i.rs1) (register rs i.rs2))) i
 by_operation Bltu nothing i rs = branch_none (ltb (register rs i.rs1) (register rs i.rs2)) i
 by_operation Bgeu nothing i rs = branch_none (not (ltb (register rs i.rs1) (register rs i.rs2))) i
 by_operation Lb nothing i rs = absurd (nothing.not_lb refl)

@@ -1,6 +1,8 @@
--- A plain load or store as an access to a device, and what the value of a load becomes (Unprivileged ISA
--- 20191213, section 2.6). Which access an instruction makes is said by its effect alone.
-use Rattle.std.specs.Prelude.{ℕ, ◌==◌, Bool, true, false, if◌then◌else◌, List, Option, Some, None, option_map}
+-- A plain load or store as an access to a device, and what the value of a load becomes
+-- (Unprivileged ISA 20191213, section 2.6). Which access an instruction makes is said by its effect
+-- alone.
+use Rattle.std.specs.Prelude.{ℕ, ◌==◌, Bool, true, false, if◌then◌else◌, List, Option, Some, None}
+use Rattle.std.specs.Prelude.{option_map}
 use Rattle.xv_isa.specs.declared.instruction.Insn.{Insn}
 use Rattle.xv_isa.specs.Effects as effects
 use Rattle.xv_isa.specs.Effects.{effect_of, extended, low_bytes}
@@ -12,7 +14,8 @@ use Rattle.xv_step.specs.State.{with_register}
 
 -- the width of 1, 2, 4 or 8 bytes
 abbrev pub width_named : ℕ → Width
-width_named bytes = if bytes == 1 then W1 else if bytes == 2 then W2 else if bytes == 4 then W4 else W8
+width_named bytes =
+    if bytes == 1 then W1 else if bytes == 2 then W2 else if bytes == 4 then W4 else W8
 
 -- a plain access as a device sees it: without its address and its register
 abbrev pub at_bus : effects.Access → Access
@@ -45,7 +48,8 @@ emulated i x = option_map at_bus (access_of i x)
 
 -- the registers after a load got this value, of which its bytes count alone
 abbrev pub written_back : effects.Access → (value : ℕ) → (x : List ℕ) → List ℕ
-written_back (effects.Load width signed va rd) value x = with_register rd (extended signed width (low_bytes width value)) x
+written_back (effects.Load width signed va rd) value x =
+    with_register rd (extended signed width (low_bytes width value)) x
 written_back (effects.Store width va stored) value x = x
 
 abbrev pub after_load : Option effects.Access → (value : ℕ) → (x : List ℕ) → List ℕ

@@ -1,18 +1,26 @@
 -- The header that is written is read again.
-use Rattle.std.proofs.Common.{◌≡◌, ℕ, zero, suc, ◌+◌, ◌-◌, ◌*◌, ◌/◌, ◌%◌, ◌^◌, ◌<◌, ◌≤◌, ◌==◌, Bool, true, ◌&&◌, cond, leb, List, [], ◌∷◌, ◌++◌, length, drop, replicate, Ok, Err, refl, ap, ◌∙◌, append_assoc, length-append, arith}
+use Rattle.std.proofs.Common.{◌≡◌, ℕ, zero, suc, ◌+◌, ◌-◌, ◌*◌, ◌/◌, ◌%◌, ◌^◌, ◌<◌, ◌≤◌, ◌==◌, Bool}
+use Rattle.std.proofs.Common.{true, ◌&&◌, cond, leb, List, [], ◌∷◌, ◌++◌, length, drop, replicate}
+use Rattle.std.proofs.Common.{Ok, Err, refl, ap, ◌∙◌, append_assoc, length-append, arith}
 use Rattle.std.proofs.lemmas.Bool.{le-leb}
 use Rattle.std.proofs.lemmas.List.{length-replicate}
 use Rattle.byteorder.specs.Endian.{big_number}
 use Rattle.xv_fdt.specs.declared.fault.FdtKind.{FdtKind}
-use Rattle.xv_fdt.specs.declared.fault.FdtKind.TheVariants.{TooBig, Short, BadMagic, BadVersion, BadOffset}
-use Rattle.xv_fdt.specs.Header.{word, is_zero_pair, has_zero_pair, reservations_end, pairs_from, totalsize, Rule, rule, file_rules, block_rules, keeps, header}
+use Rattle.xv_fdt.specs.declared.fault.FdtKind.TheVariants.{TooBig, Short, BadMagic, BadVersion}
+use Rattle.xv_fdt.specs.declared.fault.FdtKind.TheVariants.{BadOffset}
+use Rattle.xv_fdt.specs.Header.{word, is_zero_pair, has_zero_pair, reservations_end, pairs_from}
+use Rattle.xv_fdt.specs.Header.{totalsize, Rule, rule, file_rules, block_rules, keeps, header}
 use Rattle.xv_fdt.specs.Tree.{Property, Entry}
-use Rattle.xv_fdt.specs.Written.{big_word, words_bytes, header_fields, with_padding, begin_bytes, property_bytes, properties_bytes, ends, structure_bytes, names_bytes}
-use Rattle.xv_fdt.proofs.PieceLemmas.{behind, behind_word, word_is, length-big_word, length-with_padding}
+use Rattle.xv_fdt.specs.Written.{big_word, words_bytes, header_fields, with_padding, begin_bytes}
+use Rattle.xv_fdt.specs.Written.{property_bytes, properties_bytes, ends, structure_bytes}
+use Rattle.xv_fdt.specs.Written.{names_bytes}
+use Rattle.xv_fdt.proofs.PieceLemmas.{behind, behind_word, word_is, length-big_word}
+use Rattle.xv_fdt.proofs.PieceLemmas.{length-with_padding}
 
 -- ---- rules that are kept
 
-kept : (holds : Bool) (kind : FdtKind) (offset : ℕ) (rules : List Rule) → holds ≡ true → keeps (rule holds kind offset ∷ rules) ≡ keeps rules
+kept : (holds : Bool) (kind : FdtKind) (offset : ℕ) (rules : List Rule) → holds ≡ true
+    → keeps (rule holds kind offset ∷ rules) ≡ keeps rules
 unfolding keeps
 kept holds kind offset rules is = ap (λ h. cond h (keeps rules) (Err (kind, offset))) is
 
@@ -23,7 +31,8 @@ none_left = refl
 all : (a b : Bool) → a ≡ true → b ≡ true → (a && b) ≡ true
 all a b p q = rw (p, q) refl
 
-file-keeps : (bytes : List ℕ) → length bytes ≤ 1048576 → 40 ≤ length bytes → word bytes 0 ≡ 0xd00dfeed → 40 ≤ word bytes 4 → word bytes 4 ≤ length bytes
+file-keeps : (bytes : List ℕ) → length bytes ≤ 1048576 → 40 ≤ length bytes
+    → word bytes 0 ≡ 0xd00dfeed → 40 ≤ word bytes 4 → word bytes 4 ≤ length bytes
     → word bytes 20 ≡ 17 → word bytes 24 ≡ 16 → keeps (file_rules bytes) ≡ Ok tt
 file-keeps bytes small least magic total whole version last =
     kept _ TooBig 0 _ (le-leb _ _ small)
@@ -34,10 +43,13 @@ file-keeps bytes small least magic total whole version last =
     ∙ kept _ BadVersion 24 _ (ap (λ n. leb n 17) last)
     ∙ none_left
 
-block-keeps : (bytes : List ℕ) (structure strings : ℕ) → word bytes 4 ≡ 56 + structure + strings → word bytes 8 ≡ 56 → word bytes 12 ≡ 56 + structure
-    → word bytes 16 ≡ 40 → word bytes 32 ≡ strings → word bytes 36 ≡ structure → structure % 4 ≡ 0 → reservations_end bytes ≡ true
+block-keeps : (bytes : List ℕ) (structure strings : ℕ) → word bytes 4 ≡ 56 + structure + strings
+    → word bytes 8 ≡ 56 → word bytes 12 ≡ 56 + structure
+    → word bytes 16 ≡ 40 → word bytes 32 ≡ strings → word bytes 36 ≡ structure → structure % 4 ≡ 0
+    → reservations_end bytes ≡ true
     → keeps (block_rules bytes) ≡ Ok tt
-block-keeps bytes structure strings total at_structure at_strings at_pairs strings_size structure_size aligned ended =
+block-keeps bytes structure strings total at_structure at_strings at_pairs strings_size
+    structure_size aligned ended =
     kept _ BadOffset 8 _
     (all _ _ (all _ _ (ap (λ n. n % 4 == 0) at_structure) (ap (leb 40) at_structure))
     (le-leb _ _ (omega (arith, total, at_structure, structure_size))))
@@ -48,7 +60,8 @@ block-keeps bytes structure strings total at_structure at_strings at_pairs strin
 
 -- ---- the words, one after the other
 
-words-first : (number : ℕ) (numbers rest : List ℕ) → words_bytes (number ∷ numbers) ++ rest ≡ big_word number ++ (words_bytes numbers ++ rest)
+words-first : (number : ℕ) (numbers rest : List ℕ) → words_bytes (number ∷ numbers)
+    ++ rest ≡ big_word number ++ (words_bytes numbers ++ rest)
 unfolding words_bytes
 words-first number numbers rest = append_assoc (big_word number) (words_bytes numbers) rest
 
@@ -60,13 +73,19 @@ length-words : (numbers : List ℕ) → length (words_bytes numbers) ≡ 4 * len
 unfolding words_bytes
 length-words [] = refl
 length-words (number ∷ numbers) =
-    omega (arith, length-append (big_word number) (words_bytes numbers), length-big_word number, length-words numbers)
+    omega (
+      arith,
+      length-append (big_word number) (words_bytes numbers),
+      length-big_word number,
+      length-words numbers,
+    )
 
 record Field (bytes : List ℕ) (at number : ℕ) (numbers rest : List ℕ) : Type 0 where
   is : word bytes at ≡ number
   next : drop (at + 4) bytes ≡ words_bytes numbers ++ rest
 
-field : (bytes : List ℕ) (at number : ℕ) (numbers rest : List ℕ) → drop at bytes ≡ words_bytes (number ∷ numbers) ++ rest → number < 2 ^ 32 → Field bytes at number numbers rest
+field : (bytes : List ℕ) (at number : ℕ) (numbers rest : List ℕ) → drop at bytes
+    ≡ words_bytes (number ∷ numbers) ++ rest → number < 2 ^ 32 → Field bytes at number numbers rest
 field bytes at number numbers rest stands small =
     let first = stands ∙ words-first number numbers rest in
     record {
@@ -79,12 +98,15 @@ field bytes at number numbers rest stands small =
 zeros : List ℕ → List ℕ → Type 0
 zeros bytes rest = drop 40 bytes ≡ replicate 16 0 ++ rest
 
-zero_pair : (bytes rest : List ℕ) → drop 40 bytes ≡ replicate 16 0 ++ rest → is_zero_pair bytes 40 ≡ true
+zero_pair : (bytes rest : List ℕ) → drop 40 bytes ≡ replicate 16 0 ++ rest
+    → is_zero_pair bytes 40 ≡ true
 zero_pair bytes rest stands =
-    let second : drop 48 bytes ≡ replicate 8 0 ++ rest = behind bytes (replicate 8 0) (replicate 8 0 ++ rest) 40 stands in
+    let second : drop 48 bytes ≡ replicate 8 0 ++ rest =
+    behind bytes (replicate 8 0) (replicate 8 0 ++ rest) 40 stands in
     all _ _ (ap (λ xs. big_number 8 xs == 0) stands) (ap (λ xs. big_number 8 xs == 0) second)
 
-has_pair : (count : ℕ) (bytes : List ℕ) (at : ℕ) → 0 < count → is_zero_pair bytes at ≡ true → has_zero_pair count bytes at ≡ true
+has_pair : (count : ℕ) (bytes : List ℕ) (at : ℕ) → 0 < count → is_zero_pair bytes at ≡ true
+    → has_zero_pair count bytes at ≡ true
 unfolding has_zero_pair
 has_pair zero bytes at some is = absurd (omega arith)
 has_pair (suc count) bytes at some is = rw is refl
@@ -93,15 +115,18 @@ has_pair (suc count) bytes at some is = rw is refl
 
 unfoldable pub file_of : List ℕ → List ℕ → List ℕ
 file_of structure strings =
-    words_bytes (header_fields (length structure) (length strings)) ++ (replicate 16 0 ++ (structure ++ strings))
+    words_bytes (header_fields (length structure) (length strings))
+    ++ (replicate 16 0 ++ (structure ++ strings))
 
-pub length-file : (structure strings : List ℕ) → length (file_of structure strings) ≡ 56 + length structure + length strings
+pub length-file : (structure strings : List ℕ)
+    → length (file_of structure strings) ≡ 56 + length structure + length strings
 unfolding file_of
 length-file structure strings =
     let fields : length (header_fields (length structure) (length strings)) ≡ 10 = refl in
     omega (
       arith,
-      length-append (words_bytes (header_fields (length structure) (length strings))) (replicate 16 0 ++ (structure ++ strings)),
+      length-append (words_bytes (header_fields (length structure) (length strings)))
+          (replicate 16 0 ++ (structure ++ strings)),
       length-words (header_fields (length structure) (length strings)),
       fields,
       length-append (replicate 16 0) (structure ++ strings),
@@ -109,15 +134,24 @@ length-file structure strings =
       length-append structure strings,
     )
 
-start : (structure strings : List ℕ) → drop 0 (file_of structure strings) ≡ words_bytes (header_fields (length structure) (length strings)) ++ (replicate 16 0 ++ (structure ++ strings))
+start : (structure strings : List ℕ) → drop 0 (file_of structure strings)
+    ≡ words_bytes (header_fields (length structure) (length strings))
+    ++ (replicate 16 0 ++ (structure ++ strings))
 unfolding file_of
 start structure strings = refl
 
 pub record IsFile (structure strings : List ℕ) : Type 0 where
-  pub header_is : header (file_of structure strings) ≡ Ok (record { structure = 56; structure_size = length structure; strings = 56 + length structure; strings_size = length strings })
+  pub header_is : header (file_of structure strings)
+      ≡ Ok (record {
+        structure = 56;
+        structure_size = length structure;
+        strings = 56 + length structure;
+        strings_size = length strings;
+      })
   pub structure_is : drop 56 (file_of structure strings) ≡ structure ++ strings
 
-pub file-again : (structure strings : List ℕ) → length structure % 4 ≡ 0 → length (file_of structure strings) ≤ 1048576 → IsFile structure strings
+pub file-again : (structure strings : List ℕ) → length structure % 4 ≡ 0
+    → length (file_of structure strings) ≤ 1048576 → IsFile structure strings
 unfolding header
 file-again structure strings aligned small =
     let bytes = file_of structure strings in
@@ -138,11 +172,14 @@ file-again structure strings aligned small =
     let pairs : drop 40 bytes ≡ rest = f9.next ∙ words-nil rest in
     let count : 0 < (totalsize bytes - 40) / 16 = omega (arith, f1.is) in
     let ended : reservations_end bytes ≡ true =
-    ap (λ n. has_zero_pair (pairs_from bytes n) bytes n) f4.is ∙ has_pair ((totalsize bytes - 40) / 16) bytes 40 count (zero_pair bytes (structure ++ strings) pairs) in
+    ap (λ n. has_zero_pair (pairs_from bytes n) bytes n) f4.is
+    ∙ has_pair ((totalsize bytes - 40) / 16) bytes 40 count
+    (zero_pair bytes (structure ++ strings) pairs) in
     record {
       header_is =
           rw (
-            file-keeps bytes small (omega (arith, len)) f0.is (omega (arith, f1.is)) (omega (arith, f1.is, len)) f5.is f6.is,
+            file-keeps bytes small (omega (arith, len)) f0.is (omega (arith, f1.is))
+                (omega (arith, f1.is, len)) f5.is f6.is,
             block-keeps bytes s t f1.is f2.is f3.is f4.is f8.is f9.is aligned ended,
             f2.is,
             f9.is,
@@ -168,29 +205,36 @@ aligned-padding bytes = omega (arith, length-with_padding bytes)
 
 aligned-begin : (name : List ℕ) → Aligned (begin_bytes name)
 unfolding begin_bytes
-aligned-begin name = aligned-append (big_word 1) (with_padding (name ++ (0 ∷ []))) (aligned-word 1) (aligned-padding (name ++ (0 ∷ [])))
+aligned-begin name =
+    aligned-append (big_word 1) (with_padding (name ++ (0 ∷ []))) (aligned-word 1)
+    (aligned-padding (name ++ (0 ∷ [])))
 
 aligned-property : (offset : ℕ) (p : Property) → Aligned (property_bytes offset p)
 unfolding property_bytes
 aligned-property offset p =
     aligned-append (big_word 3) _ (aligned-word 3)
     (aligned-append (big_word (length p.value)) _ (aligned-word (length p.value))
-    (aligned-append (big_word offset) (with_padding p.value) (aligned-word offset) (aligned-padding p.value)))
+    (aligned-append (big_word offset) (with_padding p.value) (aligned-word offset)
+    (aligned-padding p.value)))
 
 aligned-properties : (offset : ℕ) (ps : List Property) → Aligned (properties_bytes offset ps)
 unfolding properties_bytes
 aligned-properties offset [] = refl
 aligned-properties offset (p ∷ ps) =
-    aligned-append (property_bytes offset p) (properties_bytes (offset + length p.name + 1) ps) (aligned-property offset p) (aligned-properties (offset + length p.name + 1) ps)
+    aligned-append (property_bytes offset p) (properties_bytes (offset + length p.name + 1) ps)
+    (aligned-property offset p) (aligned-properties (offset + length p.name + 1) ps)
 
 aligned-ends : (count : ℕ) → Aligned (ends count)
 unfolding ends
 aligned-ends zero = refl
-aligned-ends (suc count) = aligned-append (big_word 2) (ends count) (aligned-word 2) (aligned-ends count)
+aligned-ends (suc count) =
+    aligned-append (big_word 2) (ends count) (aligned-word 2) (aligned-ends count)
 
-pub aligned-structure : (open_nodes offset : ℕ) (es : List Entry) → length (structure_bytes open_nodes offset es) % 4 ≡ 0
+pub aligned-structure : (open_nodes offset : ℕ) (es : List Entry)
+    → length (structure_bytes open_nodes offset es) % 4 ≡ 0
 unfolding structure_bytes
-aligned-structure open_nodes offset [] = aligned-append (ends open_nodes) (big_word 9) (aligned-ends open_nodes) (aligned-word 9)
+aligned-structure open_nodes offset [] =
+    aligned-append (ends open_nodes) (big_word 9) (aligned-ends open_nodes) (aligned-word 9)
 aligned-structure open_nodes offset (e ∷ es) =
     aligned-append (ends (suc open_nodes - e.depth)) _ (aligned-ends (suc open_nodes - e.depth))
     (aligned-append (begin_bytes e.name) _ (aligned-begin e.name)

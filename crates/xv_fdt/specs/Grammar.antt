@@ -1,10 +1,13 @@
--- The tree that a list of tokens writes (Devicetree Specification v0.4, section 5.4.2): a node is its begin
--- token, its properties, its children and its end token. Each fault stands with the case that it belongs to.
-use Rattle.std.specs.Prelude.{◌≡◌, ℕ, zero, suc, ◌+◌, ◌==◌, nat_eq, nat_le, Bool, false, not, ◌&&◌, ◌||◌, List, [], ◌∷◌, ◌++◌, length, Result, Ok, Err}
+-- The tree that a list of tokens writes (Devicetree Specification v0.4, section 5.4.2): a node is
+-- its begin token, its properties, its children and its end token. Each fault stands with the case
+-- that it belongs to.
+use Rattle.std.specs.Prelude.{◌≡◌, ℕ, zero, suc, ◌+◌, ◌==◌, nat_eq, nat_le, Bool, false, not, ◌&&◌}
+use Rattle.std.specs.Prelude.{◌||◌, List, [], ◌∷◌, ◌++◌, length, Result, Ok, Err}
 use Rattle.std.specs.Cmp.Lexicographic.{pointwise}
 use Rattle.xv_base.specs.Name.{is_dev_name}
 use Rattle.xv_fdt.specs.declared.fault.FdtKind.{FdtKind}
-use Rattle.xv_fdt.specs.declared.fault.FdtKind.TheVariants.{Short, BadToken, BadName, Unbalanced, TooDeep}
+use Rattle.xv_fdt.specs.declared.fault.FdtKind.TheVariants.{Short, BadToken, BadName, Unbalanced}
+use Rattle.xv_fdt.specs.declared.fault.FdtKind.TheVariants.{TooDeep}
 use Rattle.xv_fdt.specs.Fault.{Fault, ◌>>=◌, given, fault_at}
 use Rattle.xv_fdt.specs.Header.{header, structure_block, strings_block}
 use Rattle.xv_fdt.specs.Token.{Token, Begin, EndNode, Prop, Nop, End, Broken, tokens}
@@ -85,9 +88,9 @@ node_of named parent depth ts = do
   found ← properties nobody ts
   Ok (record { name = name; parent = parent; depth = depth; props = found.0 }, found.1)
 
--- the children of node `parent` and all that is below them, up to the node's end-node token, and the tokens behind
--- that: `next` is the number of the next node, and `taken` are the names of earlier children. Each node is among
--- the first `count` tokens
+-- the children of node `parent` and all that is below them, up to the node's end-node token, and
+-- the tokens behind that: `next` is the number of the next node, and `taken` are the names of
+-- earlier children. Each node is among the first `count` tokens
 unfoldable pub nodes : ℕ → ℕ → ℕ → ℕ → Names → List Token → Result (List Entry × List Token) Fault
 nodes zero next parent depth taken ts = Err no_token
 nodes (suc count) next parent depth taken [] = Err no_token
@@ -96,7 +99,8 @@ nodes (suc count) next parent depth taken (Begin at read ∷ ts) =
     given (nat_le depth 16) TooDeep at (do
       first ← node_of (node_name taken at read) parent depth ts
       below ← nodes count (next + 1) next (depth + 1) nobody first.1
-      others ← nodes count (next + 1 + length below.0) parent depth (with_name taken first.0.name) below.1
+      others ← nodes count (next + 1 + length below.0) parent depth
+          (with_name taken first.0.name) below.1
       Ok (first.0 ∷ (below.0 ++ others.0), others.1))
 nodes (suc count) next parent depth taken (t ∷ ts) = Err (stray_child_fault t)
 

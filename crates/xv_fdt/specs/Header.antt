@@ -1,9 +1,12 @@
 -- The header of a flattened tree and its memory reservation block (Devicetree Specification v0.4,
 -- sections 5.2 and 5.3).
-use Rattle.std.specs.Prelude.{ℕ, zero, suc, ◌+◌, ◌-◌, ◌/◌, ◌%◌, ◌==◌, nat_le, Bool, false, ◌&&◌, ◌||◌, if◌then◌else◌, List, [], ◌∷◌, length, take, drop, Result, Ok, Err}
+use Rattle.std.specs.Prelude.{ℕ, zero, suc, ◌+◌, ◌-◌, ◌/◌, ◌%◌, ◌==◌, nat_le, Bool, false, ◌&&◌}
+use Rattle.std.specs.Prelude.{◌||◌, if◌then◌else◌, List, [], ◌∷◌, length, take, drop, Result, Ok}
+use Rattle.std.specs.Prelude.{Err}
 use Rattle.byteorder.specs.Endian.{big_number}
 use Rattle.xv_fdt.specs.declared.fault.FdtKind.{FdtKind}
-use Rattle.xv_fdt.specs.declared.fault.FdtKind.TheVariants.{TooBig, Short, BadMagic, BadVersion, BadOffset}
+use Rattle.xv_fdt.specs.declared.fault.FdtKind.TheVariants.{TooBig, Short, BadMagic, BadVersion}
+use Rattle.xv_fdt.specs.declared.fault.FdtKind.TheVariants.{BadOffset}
 use Rattle.xv_fdt.specs.declared.header.Layout.{Layout}
 use Rattle.xv_fdt.specs.Fault.{Fault, ◌>>=◌}
 
@@ -55,7 +58,8 @@ abbrev pub pairs_from : List ℕ → ℕ → ℕ
 pairs_from bytes at = (totalsize bytes - at) / 16
 
 abbrev pub reservations_end : List ℕ → Bool
-reservations_end bytes = has_zero_pair (pairs_from bytes (off_mem_rsvmap bytes)) bytes (off_mem_rsvmap bytes)
+reservations_end bytes =
+    has_zero_pair (pairs_from bytes (off_mem_rsvmap bytes)) bytes (off_mem_rsvmap bytes)
 
 -- the blocks end before the tree does
 
@@ -88,7 +92,8 @@ file_rules bytes =
 -- of its blocks
 abbrev pub block_rules : List ℕ → List Rule
 block_rules bytes =
-    rule (off_dt_struct bytes % 4 == 0 && nat_le 40 (off_dt_struct bytes) && structure_fits bytes) BadOffset 8
+    rule (off_dt_struct bytes % 4 == 0 && nat_le 40 (off_dt_struct bytes)
+    && structure_fits bytes) BadOffset 8
     ∷ rule (size_dt_struct bytes % 4 == 0) BadOffset 36
     ∷ rule (strings_fit bytes) BadOffset 12
     ∷ rule (off_mem_rsvmap bytes % 8 == 0 && reservations_end bytes) BadOffset 16
@@ -109,9 +114,11 @@ layout_of bytes = record {
 }
 
 unfoldable pub header : List ℕ → Result Layout Fault
-header bytes = keeps (file_rules bytes) >>= λ _. (keeps (block_rules bytes) >>= λ _. Ok (layout_of bytes))
+header bytes =
+    keeps (file_rules bytes) >>= λ _. (keeps (block_rules bytes) >>= λ _. Ok (layout_of bytes))
 
--- the bytes of the file up to the end of the structure block, so that a place in them is an offset in the file
+-- the bytes of the file up to the end of the structure block, so that a place in them is an offset
+-- in the file
 abbrev pub structure_block : List ℕ → Layout → List ℕ
 structure_block bytes layout = take (layout.structure + layout.structure_size) bytes
 

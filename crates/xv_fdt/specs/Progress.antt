@@ -19,7 +19,8 @@ unfoldable pub taken_in : NameSet → Names
 taken_in names name = contains (slice_cmp nat_cmp) names.set name
 
 -- what was read so far, and then what reading gives
-abbrev pub with_front : {A : Type 0} → List A → Result (List A × List Token) Fault → Result (List A × List Token) Fault
+abbrev pub with_front : {A : Type 0} → List A → Result (List A × List Token) Fault
+    → Result (List A × List Token) Fault
 with_front front reading = reading >>= λ read. Ok (front ++ read.0, read.1)
 
 -- the tokens from a place on, if there is one
@@ -36,7 +37,8 @@ property_in blocks at = property_at blocks.structure.now blocks.strings.now at
 
 abbrev pub tokens_inside : Blocks → ℕ → List Token
 tokens_inside blocks at =
-    tokens_after blocks.structure.now blocks.strings.now (next_of (Begin at (name_at blocks.structure.now at)))
+    tokens_after blocks.structure.now blocks.strings.now
+    (next_of (Begin at (name_at blocks.structure.now at)))
 
 -- the kind of the fault at a mark that nothing allows
 abbrev pub stray_kind : Mark → FdtKind

@@ -1,4 +1,5 @@
--- What each tree that the grammar allows looks like: the root, and then nodes each of which lies in one before it.
+-- What each tree that the grammar allows looks like: the root, and then nodes each of which lies in
+-- one before it.
 use Rattle.std.specs.Prelude.{◌≡◌, ℕ, ◌+◌, ◌<◌, ◌≤◌, List, [], ◌∷◌, IsTrue}
 use Rattle.xv_base.specs.Name.{is_dev_name}
 use Rattle.xv_fdt.specs.Tree.{Entry}

@@ -1,6 +1,8 @@
--- The tokens of a structure block (Devicetree Specification v0.4, section 5.4). A block holds the bytes of
--- the file up to the end of its structure, so that the place of a token is its offset in the file.
-use Rattle.std.specs.Prelude.{ℕ, zero, suc, ◌+◌, ◌-◌, ◌*◌, ◌/◌, ◌==◌, nat_lt, if◌then◌else◌, List, [], ◌∷◌, length, take, drop, Option, Some, None, Result, Ok, Err}
+-- The tokens of a structure block (Devicetree Specification v0.4, section 5.4). A block holds the
+-- bytes of the file up to the end of its structure, so that the place of a token is its offset in
+-- the file.
+use Rattle.std.specs.Prelude.{ℕ, zero, suc, ◌+◌, ◌-◌, ◌*◌, ◌/◌, ◌==◌, nat_lt, if◌then◌else◌, List}
+use Rattle.std.specs.Prelude.{[], ◌∷◌, length, take, drop, Option, Some, None, Result, Ok, Err}
 use Rattle.std.specs.Option.{option_map}
 use Rattle.xv_fdt.specs.declared.fault.FdtKind.{FdtKind}
 use Rattle.xv_fdt.specs.declared.fault.FdtKind.TheVariants.{Short, BadToken, BadOffset}
@@ -12,10 +14,11 @@ use Rattle.xv_fdt.specs.Tree.{Property}
 -- the bytes before the first 0, or none where there is no 0
 unfoldable pub text : List ℕ → Option (List ℕ)
 text [] = None
-text (byte ∷ bytes) = if byte == 0 then Some [] else option_map (λ others. byte ∷ others) (text bytes)
+text (byte ∷ bytes) =
+    if byte == 0 then Some [] else option_map (λ others. byte ∷ others) (text bytes)
 
--- a token with its place, and what stands behind it: the name of a node, or a property. That may be broken
--- in a way of its own
+-- a token with its place, and what stands behind it: the name of a node, or a property. That may be
+-- broken in a way of its own
 pub data Token : Type 0 where
   Begin : (at : ℕ) → (name : Result (List ℕ) FdtKind) → Token
   EndNode : (at : ℕ) → Token
@@ -46,7 +49,8 @@ name_read (Some name) = Ok name
 unfoldable pub name_at : List ℕ → ℕ → Result (List ℕ) FdtKind
 name_at block at = name_read (text (drop (at + 4) block))
 
--- what stands behind FDT_PROP: the length of the value, the offset of the name in the strings, and the value
+-- what stands behind FDT_PROP: the length of the value, the offset of the name in the strings, and
+-- the value
 abbrev pub property_read : Option (List ℕ) → List ℕ → Result Property FdtKind
 property_read None value = Err BadOffset
 property_read (Some name) value = Ok (record { name = name; value = value })
@@ -61,7 +65,8 @@ unfoldable pub property_at : List ℕ → List ℕ → ℕ → Result Property F
 property_at block strings at =
     if nat_lt (length block) (at + 12) then Err Short
     else if nat_lt (length block) (at + 12 + value_len block at) then Err Short
-    else property_read (text (drop (name_offset block at) strings)) (take (value_len block at) (drop (at + 12) block))
+    else property_read (text (drop (name_offset block at) strings))
+    (take (value_len block at) (drop (at + 12) block))
 
 abbrev pub token_of : List ℕ → List ℕ → ℕ → Mark → Token
 token_of block strings at marks.Begin = Begin at (name_at block at)
@@ -100,9 +105,10 @@ unfoldable pub tokens_up_to : ℕ → List ℕ → List ℕ → Option ℕ → L
 tokens_up_to zero block strings place = []
 tokens_up_to (suc count) block strings None = []
 tokens_up_to (suc count) block strings (Some at) =
-    before (token_at block strings at) (tokens_up_to count block strings (next_of (token_at block strings at)))
+    before (token_at block strings at)
+    (tokens_up_to count block strings (next_of (token_at block strings at)))
 
--- the tokens from a place on, without no-operations. A block has no more tokens than bytes, and the last one is
--- the end or broken
+-- the tokens from a place on, without no-operations. A block has no more tokens than bytes, and the
+-- last one is the end or broken
 unfoldable pub tokens : List ℕ → List ℕ → ℕ → List Token
 tokens block strings at = tokens_up_to (suc (length block - at)) block strings (Some at)

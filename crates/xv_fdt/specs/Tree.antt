@@ -6,8 +6,9 @@ pub record Property : Type 0 where
   pub name : List ℕ
   pub value : List ℕ
 
--- a node: the bytes of its name, the number of its parent, its depth (the root has 1), and its properties in order.
--- A tree is the list of its nodes in order of their begin tokens, and a node's number is its place in that list
+-- a node: the bytes of its name, the number of its parent, its depth (the root has 1), and its
+-- properties in order. A tree is the list of its nodes in order of their begin tokens, and a node's
+-- number is its place in that list
 pub record Entry : Type 0 where
   pub name : List ℕ
   pub parent : ℕ

@@ -31,25 +31,29 @@ begin_bytes name = big_word 1 ++ with_padding (name ++ (0 ∷ []))
 
 -- FDT_PROP, the length of the value, the offset of the name, and the value
 unfoldable pub property_bytes : ℕ → Property → List ℕ
-property_bytes offset p = big_word 3 ++ (big_word (length p.value) ++ (big_word offset ++ with_padding p.value))
+property_bytes offset p =
+    big_word 3 ++ (big_word (length p.value) ++ (big_word offset ++ with_padding p.value))
 
 -- the properties of a node, the names of which stand in the strings from an offset on
 unfoldable pub properties_bytes : ℕ → List Property → List ℕ
 properties_bytes offset [] = []
-properties_bytes offset (p ∷ ps) = property_bytes offset p ++ properties_bytes (offset + length p.name + 1) ps
+properties_bytes offset (p ∷ ps) =
+    property_bytes offset p ++ properties_bytes (offset + length p.name + 1) ps
 
 -- so many FDT_END_NODE
 unfoldable pub ends : ℕ → List ℕ
 ends zero = []
 ends (suc count) = big_word 2 ++ ends count
 
--- nodes, where so many are open: a node of depth k stands in k - 1 open ones, so those that it isn't in end before
--- it. FDT_END follows the last
+-- nodes, where so many are open: a node of depth k stands in k - 1 open ones, so those that it
+-- isn't in end before it. FDT_END follows the last
 unfoldable pub structure_bytes : ℕ → ℕ → List Entry → List ℕ
 structure_bytes open_nodes offset [] = ends open_nodes ++ big_word 9
 structure_bytes open_nodes offset (e ∷ es) =
     ends (suc open_nodes - e.depth)
-    ++ (begin_bytes e.name ++ (properties_bytes offset e.props ++ structure_bytes e.depth (offset + length (names_bytes e.props)) es))
+    ++ (begin_bytes e.name
+    ++ (properties_bytes offset e.props
+    ++ structure_bytes e.depth (offset + length (names_bytes e.props)) es))
 
 -- ---- the whole
 
@@ -57,8 +61,9 @@ unfoldable pub words_bytes : List ℕ → List ℕ
 words_bytes [] = []
 words_bytes (number ∷ numbers) = big_word number ++ words_bytes numbers
 
--- the ten fields of the header for blocks of these sizes (5.2): the reservation block stands at 40 and has 16
--- bytes, the structure begins at 56, the version is 17 and the last compatible version 16
+-- the ten fields of the header for blocks of these sizes (5.2): the reservation block stands at 40
+-- and has 16 bytes, the structure begins at 56, the version is 17 and the last compatible version
+-- 16
 abbrev pub header_fields : ℕ → ℕ → List ℕ
 header_fields structure_size strings_size =
     0xd00dfeed

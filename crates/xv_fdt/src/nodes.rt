@@ -1,8 +1,10 @@
 //! The nodes of a tree.
-ghost use Rattle.std.specs.Prelude.{◌≡◌, ◌+◌, ◌≤◌, ◌<◌, ◌^◌, ◌==◌, nat_le, [], ◌∷◌, ◌++◌, List, IfOk, Ok, length};
+ghost use Rattle.std.specs.Prelude.{◌≡◌, ◌+◌, ◌≤◌, ◌<◌, ◌^◌, ◌==◌, nat_le, [], ◌∷◌, ◌++◌, List};
+ghost use Rattle.std.specs.Prelude.{IfOk, Ok, length};
 ghost use Rattle.xv_fdt.specs.Fault.{Gives, given};
 ghost use Rattle.xv_fdt.specs.Grammar as grammar;
-ghost use Rattle.xv_fdt.specs.Progress.{taken_in, with_front, tokens_in, tokens_inside, stray_kind, stray_child_kind};
+ghost use Rattle.xv_fdt.specs.Progress.{taken_in, with_front, tokens_in, tokens_inside, stray_kind};
+ghost use Rattle.xv_fdt.specs.Progress.{stray_child_kind};
 ghost use Rattle.xv_fdt.specs.Token as spec;
 
 use crate::blocks::{Blocks, name_at};

@@ -1,9 +1,11 @@
 -- The fields of an instruction.
-use Rattle.std.proofs.Common.{◌≡◌, ◌⊎◌, inl, inr, ◌<◌, ◌≤◌, ℕ, zero, suc, Bool, true, false, not, ◌&&◌, ◌||◌, ℤ, pos, negsuc, ◌≤ℤ◌, refl, sym, ap, ◌∙◌, arith}
+use Rattle.std.proofs.Common.{◌≡◌, ◌⊎◌, inl, inr, ◌<◌, ◌≤◌, ℕ, zero, suc, Bool, true, false, not}
+use Rattle.std.proofs.Common.{◌&&◌, ◌||◌, ℤ, pos, negsuc, ◌≤ℤ◌, refl, sym, ap, ◌∙◌, arith}
 use Rattle.std.proofs.lemmas.Bool.{and_parts, cases_lt}
 use Rattle.xv_isa.specs.declared.instruction.Insn.{Insn}
 use Rattle.xv_isa.specs.declared.rows.Form.{Form}
-use Rattle.xv_isa.specs.declared.rows.Form.TheVariants.{R, I, S, B, U, J, Shift, Csr, Fence, Whole, Sfence, Lr, Amo}
+use Rattle.xv_isa.specs.declared.rows.Form.TheVariants.{R, I, S, B, U, J, Shift, Csr, Fence, Whole}
+use Rattle.xv_isa.specs.declared.rows.Form.TheVariants.{Sfence, Lr, Amo}
 use Rattle.xv_isa.specs.declared.rows.Op.{Op}
 use Rattle.xv_isa.specs.declared.rows.Op.TheVariants.{Csrrw, Csrrs, Csrrc, Csrrwi, Csrrsi, Csrrci}
 use Rattle.xv_isa.specs.Rows.{rows, form_of, operation_at}
@@ -54,7 +56,8 @@ all_below test zero = true
 all_below test (suc n) = test n && all_below test n
 
 -- the last number, or one before it
-at_or_below : (test : ℕ → Bool) (n k : ℕ) → test n ≡ true → (k < n → test k ≡ true) → k < suc n → test k ≡ true
+at_or_below : (test : ℕ → Bool) (n k : ℕ) → test n ≡ true → (k < n → test k ≡ true) → k < suc n
+    → test k ≡ true
 at_or_below test n k last earlier few = by_place (cases_lt k n)
   where
     by_place : (k < n) ⊎ (n ≤ k) → test k ≡ true
@@ -78,10 +81,14 @@ below_4096 : (z : ℤ) → IsBelow 4096 z → residue 64 z < 4096
 below_4096 (pos n) h = grind (arith, h.1)
 below_4096 (negsuc n) h = absurd (negative n h.0)
 
-number_of : (f : Form) (o : Op) (i : Insn) → (not (is_csr o) || is_csr_form f) ≡ true → is_csr o ≡ true → FitsForm f o i → residue 64 i.imm < 4096
+number_of : (f : Form) (o : Op) (i : Insn) → (not (is_csr o) || is_csr_form f) ≡ true
+    → is_csr o ≡ true → FitsForm f o i → residue 64 i.imm < 4096
 number_of Csr o i passes csr fits = below_4096 i.imm fits.3
 number_of f o i passes csr fits = cc
 
 -- the number of the CSR that a CSR row names
-pub number_fits : (i : Insn) (o : Op) → InRange i → o ≡ operation_at i.row → is_csr o ≡ true → residue 64 i.imm < 4096
-number_fits i o h e csr = number_of (form_of i.row) (operation_at i.row) i (below_at row_passes 97 i.row rows_pass h.0) (ap is_csr (sym e) ∙ csr) h.1
+pub number_fits : (i : Insn) (o : Op) → InRange i → o ≡ operation_at i.row → is_csr o ≡ true
+    → residue 64 i.imm < 4096
+number_fits i o h e csr =
+    number_of (form_of i.row) (operation_at i.row) i (below_at row_passes 97 i.row rows_pass h.0)
+    (ap is_csr (sym e) ∙ csr) h.1

@@ -29,19 +29,24 @@ sepc_aligned csrs kept = omega (arith, kept.sepc)
 
 -- what a step comes to where the instruction asks for this
 abbrev pub done_by : Regs → List ℕ → (word next : ℕ) → Action → HStep
-done_by r bytes word next a = exit_of r bytes (performed (bus_of r) (inputs_of r) word next (state_of r bytes) (action_of a))
+done_by r bytes word next a =
+    exit_of r bytes (performed (bus_of r) (inputs_of r) word next (state_of r bytes) (action_of a))
 
 -- what a step comes to where no interrupt is taken
 abbrev pub fetch_of : Regs → List ℕ → HStep
 fetch_of r bytes = exit_of r bytes (fetched (bus_of r) (inputs_of r) (state_of r bytes))
 
 module _ (r : Regs) (bytes : List ℕ) where
-  pub came_trapped : (exit : Exit) (new : Regs) (cause tval : ℕ) → exit ≡ Done → new ≡ after_trap cause tval r
+  pub came_trapped : (exit : Exit) (new : Regs) (cause tval : ℕ) → exit ≡ Done
+      → new ≡ after_trap cause tval r
       → came exit new bytes ≡ exit_of r bytes (Raised cause tval)
-  came_trapped exit new cause tval done regs = ap (λ e. came e new bytes) done ∙ ap (λ n. came Done n bytes) regs
+  came_trapped exit new cause tval done regs =
+      ap (λ e. came e new bytes) done ∙ ap (λ n. came Done n bytes) regs
 
   -- the step, where this interrupt is taken or none
   pub step_is : (o : Option ℕ) → chosen_interrupt r.csrs r.user r.lines ≡ o
-      → hart_step r bytes ≡ exit_of r bytes (interrupted (bus_of r) (inputs_of r) (state_of r bytes) o)
+      → hart_step r bytes
+      ≡ exit_of r bytes (interrupted (bus_of r) (inputs_of r) (state_of r bytes) o)
   unfolding hart_step step
-  step_is o chosen = ap (λ c. exit_of r bytes (interrupted (bus_of r) (inputs_of r) (state_of r bytes) c)) chosen
+  step_is o chosen =
+      ap (λ c. exit_of r bytes (interrupted (bus_of r) (inputs_of r) (state_of r bytes) c)) chosen

@@ -23,10 +23,12 @@ change_of change.Unwritten = effects.Unwritten
 abbrev pub action_of : Action → effects.Action
 action_of (action.Set rd value) = effects.Set rd value
 action_of (action.Jump target rd link) = effects.Jump target rd link
-action_of (action.Load width signed va rd) = effects.Plain (effects.Load (bytes_of width) signed va rd)
+action_of (action.Load width signed va rd) =
+    effects.Plain (effects.Load (bytes_of width) signed va rd)
 action_of (action.Store width va value) = effects.Plain (effects.Store (bytes_of width) va value)
 action_of (action.LoadReserved width va rd) = effects.LoadReserved (bytes_of width) va rd
-action_of (action.StoreConditional width va value rd) = effects.StoreConditional (bytes_of width) va value rd
+action_of (action.StoreConditional width va value rd) =
+    effects.StoreConditional (bytes_of width) va value rd
 action_of (action.Modify op width va value rd) = effects.Modify op (bytes_of width) va value rd
 action_of (action.AccessCsr number change rd) = effects.AccessCsr number (change_of change) rd
 action_of action.FenceTranslations = effects.FenceTranslations

@@ -16,4 +16,5 @@ IsFit m = room_of m.hart ≡ trail_room
 
 -- the last MiBs of memory
 abbrev pub area_of : (mib reserved_mib : ℕ) → Span
-area_of mib reserved_mib = record { start = (mib - reserved_mib) * 2 ^ 20; len = reserved_mib * 2 ^ 20 }
+area_of mib reserved_mib =
+    record { start = (mib - reserved_mib) * 2 ^ 20; len = reserved_mib * 2 ^ 20 }

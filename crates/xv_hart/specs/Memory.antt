@@ -1,5 +1,5 @@
--- The memory of the hart's guest, by what its registers say of it: the bus of its steps, and what host memory
--- needs for them.
+-- The memory of the hart's guest, by what its registers say of it: the bus of its steps, and what
+-- host memory needs for them.
 use Rattle.std.specs.Prelude.{ℕ, List, length}
 use Rattle.xv_step.specs.Bus.{Bus}
 use Rattle.xv_hart.specs.declared.regs.Regs.{Regs}

@@ -1,17 +1,22 @@
 -- Host memory as the hart reaches it: through its window.
-use Rattle.std.specs.Prelude.{ℕ, ◌≡◌, ◌+◌, ◌-◌, ◌%◌, ◌^◌, ◌<◌, ◌≤◌, ◌==◌, ◌&&◌, true, nat_le, if◌then◌else◌, List, Option, Some, None, option_map}
+use Rattle.std.specs.Prelude.{ℕ, ◌≡◌, ◌+◌, ◌-◌, ◌%◌, ◌^◌, ◌<◌, ◌≤◌, ◌==◌, ◌&&◌, true, nat_le}
+use Rattle.std.specs.Prelude.{if◌then◌else◌, List, Option, Some, None, option_map}
 use Rattle.xv_mem.specs.Bytes.{word_at, put_word}
 use Rattle.xv_step.specs.Bus.{Bus}
 use Rattle.xv_hart.specs.declared.window.Window.{Window}
 
--- the host address of so many bytes at a guest physical address, where they lie wholly in the window
+-- the host address of so many bytes at a guest physical address, where they lie wholly in the
+-- window
 abbrev pub host_of : Window → (width gpa : ℕ) → Option ℕ
-host_of w width gpa = if nat_le w.base gpa && nat_le (gpa + width) (w.base + w.size) then Some (w.host + (gpa - w.base)) else None
+host_of w width gpa =
+    if nat_le w.base gpa && nat_le (gpa + width) (w.base + w.size)
+    then Some (w.host + (gpa - w.base)) else None
 
 -- a place is a host address, and all that the window shows may be written
 abbrev pub window_bus : Window → Bus (List ℕ) ℕ
 window_bus w = record {
-  find = λ width gpa. option_map (λ at. record { place = at; writable = true }) (host_of w width gpa);
+  find = λ width gpa. option_map (λ at. record { place = at; writable = true })
+      (host_of w width gpa);
   get = λ bytes width at. word_at width bytes at;
   put = λ bytes width at value. put_word width bytes at value;
   same = λ at other. at == other;

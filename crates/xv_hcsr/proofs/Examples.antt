@@ -10,16 +10,29 @@ use Rattle.xv_hcsr.specs.Time.{guest_time, delta_of}
 last : HCsrs
 last = guest_hcsrs 15 15 (delta_of 7)
 
-the_registers : last ≡ record { hstatus = 0x20_0080; hedeleg = 0xB15D; hideleg = 0x444; hvip = 0; hgatp = 0x8000_F000_0000_003C; htimedelta = 0xFFFF_FFFF_FFFF_FFF9; hcounteren = 2; htval = 0; htinst = 0 }
+the_registers : last
+    ≡ record {
+      hstatus = 0x20_0080;
+      hedeleg = 0xB15D;
+      hideleg = 0x444;
+      hvip = 0;
+      hgatp = 0x8000_F000_0000_003C;
+      htimedelta = 0xFFFF_FFFF_FFFF_FFF9;
+      hcounteren = 2;
+      htval = 0;
+      htinst = 0;
+    }
 unfolding last guest_hcsrs
 the_registers = refl
 
 -- causes 0 to 23
 causes : List ℕ
-causes = 0 ∷ 1 ∷ 2 ∷ 3 ∷ 4 ∷ 5 ∷ 6 ∷ 7 ∷ 8 ∷ 9 ∷ 10 ∷ 11 ∷ 12 ∷ 13 ∷ 14 ∷ 15 ∷ 16 ∷ 20 ∷ 21 ∷ 22 ∷ 23 ∷ []
+causes = 0 ∷ 1 ∷ 2 ∷ 3 ∷ 4 ∷ 5 ∷ 6 ∷ 7 ∷ 8 ∷ 9 ∷ 10 ∷ 11 ∷ 12 ∷ 13 ∷ 14 ∷ 15 ∷ 16 ∷ 20 ∷ 21
+    ∷ 22 ∷ 23 ∷ []
 
 the_exceptions : map (is_delegated last) causes
-    ≡ (true ∷ false ∷ true ∷ true ∷ true ∷ false ∷ true ∷ false ∷ true ∷ false ∷ false ∷ false ∷ true ∷ true ∷ false ∷ true
+    ≡ (true ∷ false ∷ true ∷ true ∷ true ∷ false ∷ true ∷ false ∷ true ∷ false ∷ false ∷ false
+    ∷ true ∷ true ∷ false ∷ true
     ∷ false ∷ false ∷ false ∷ false ∷ false ∷ [])
 unfolding last guest_hcsrs is_delegated causes
 the_exceptions = refl

@@ -3,8 +3,9 @@ use Rattle.std.specs.Prelude.{ℕ, ◌+◌, ◌*◌, ◌^◌, List, [], ◌∷�
 use Rattle.xv_base.specs.Bits.{mask}
 use Rattle.xv_hcsr.specs.declared.HCsrs.{HCsrs}
 
--- the exceptions that enter the guest: misaligned fetch 0, illegal instruction 2, breakpoint 3, misaligned
--- load 4 and store 6, call from U 8, page fault of a fetch 12, of a load 13 and of a store 15
+-- the exceptions that enter the guest: misaligned fetch 0, illegal instruction 2, breakpoint 3,
+-- misaligned load 4 and store 6, call from U 8, page fault of a fetch 12, of a load 13 and of a
+-- store 15
 abbrev pub guest_exceptions : List ℕ
 guest_exceptions = 0 ∷ 2 ∷ 3 ∷ 4 ∷ 6 ∷ 8 ∷ 12 ∷ 13 ∷ 15 ∷ []
 

@@ -1,19 +1,42 @@
 //! The bits of the hypervisor CSRs that have names of their own.
+//!
+//! Constants and lists stand here by hand, since `bitflag_items!` would write fourteen operators with
+//! them that nothing calls, each to be proved at every check.
 ghost use Rattle.std.specs.Prelude.{⊤, ◌^◌, [], ◌∷◌, codes};
 
-use bitflags::{Flag, Flags, bitflag_items};
+use bitflags::{Flag, Flags};
 
 /// Bits of hstatus (Privileged Architecture 20211203, section 8.2.1).
 #[derive(Clone, Copy, Debug, PartialEq, Eq)]
 pub struct Hstatus(u64);
 
-bitflag_items! {
-    impl Hstatus: u64 {
-        const SPV = 0x80;
-        const VTVM = 0x10_0000;
-        const VTW = 0x20_0000;
-        const VTSR = 0x40_0000;
-    }
+impl Hstatus {
+    pub const SPV: Hstatus = Hstatus(0x80);
+
+    pub const VTVM: Hstatus = Hstatus(0x10_0000);
+
+    pub const VTW: Hstatus = Hstatus(0x20_0000);
+
+    pub const VTSR: Hstatus = Hstatus(0x40_0000);
+
+    pub const FLAGS: &'static [Flag<Hstatus>] = &[
+        Flag {
+            name: "SPV",
+            value: Hstatus::SPV,
+        },
+        Flag {
+            name: "VTVM",
+            value: Hstatus::VTVM,
+        },
+        Flag {
+            name: "VTW",
+            value: Hstatus::VTW,
+        },
+        Flag {
+            name: "VTSR",
+            value: Hstatus::VTSR,
+        },
+    ];
 }
 
 impl Flags for Hstatus {
@@ -39,23 +62,68 @@ impl Flags for Hstatus {
     }
 }
 
-/// The exceptions that a guest takes by itself, as bits of hedeleg (section 8.2.2). Calls from S the
-/// hypervisor answers, and access faults it makes of guest-page faults.
+/// The exceptions that a guest takes by itself, as bits of hedeleg (section 8.2.2). Calls from S
+/// the hypervisor answers, and access faults it makes of guest-page faults.
 #[derive(Clone, Copy, Debug, PartialEq, Eq)]
 pub struct GuestExceptions(u64);
 
-bitflag_items! {
-    impl GuestExceptions: u64 {
-        const FETCH_MISALIGNED = 0x1;
-        const ILLEGAL_INSTRUCTION = 0x4;
-        const BREAKPOINT = 0x8;
-        const LOAD_MISALIGNED = 0x10;
-        const STORE_MISALIGNED = 0x40;
-        const USER_CALL = 0x100;
-        const FETCH_PAGE_FAULT = 0x1000;
-        const LOAD_PAGE_FAULT = 0x2000;
-        const STORE_PAGE_FAULT = 0x8000;
-    }
+impl GuestExceptions {
+    pub const FETCH_MISALIGNED: GuestExceptions = GuestExceptions(0x1);
+
+    pub const ILLEGAL_INSTRUCTION: GuestExceptions = GuestExceptions(0x4);
+
+    pub const BREAKPOINT: GuestExceptions = GuestExceptions(0x8);
+
+    pub const LOAD_MISALIGNED: GuestExceptions = GuestExceptions(0x10);
+
+    pub const STORE_MISALIGNED: GuestExceptions = GuestExceptions(0x40);
+
+    pub const USER_CALL: GuestExceptions = GuestExceptions(0x100);
+
+    pub const FETCH_PAGE_FAULT: GuestExceptions = GuestExceptions(0x1000);
+
+    pub const LOAD_PAGE_FAULT: GuestExceptions = GuestExceptions(0x2000);
+
+    pub const STORE_PAGE_FAULT: GuestExceptions = GuestExceptions(0x8000);
+
+    pub const FLAGS: &'static [Flag<GuestExceptions>] = &[
+        Flag {
+            name: "FETCH_MISALIGNED",
+            value: GuestExceptions::FETCH_MISALIGNED,
+        },
+        Flag {
+            name: "ILLEGAL_INSTRUCTION",
+            value: GuestExceptions::ILLEGAL_INSTRUCTION,
+        },
+        Flag {
+            name: "BREAKPOINT",
+            value: GuestExceptions::BREAKPOINT,
+        },
+        Flag {
+            name: "LOAD_MISALIGNED",
+            value: GuestExceptions::LOAD_MISALIGNED,
+        },
+        Flag {
+            name: "STORE_MISALIGNED",
+            value: GuestExceptions::STORE_MISALIGNED,
+        },
+        Flag {
+            name: "USER_CALL",
+            value: GuestExceptions::USER_CALL,
+        },
+        Flag {
+            name: "FETCH_PAGE_FAULT",
+            value: GuestExceptions::FETCH_PAGE_FAULT,
+        },
+        Flag {
+            name: "LOAD_PAGE_FAULT",
+            value: GuestExceptions::LOAD_PAGE_FAULT,
+        },
+        Flag {
+            name: "STORE_PAGE_FAULT",
+            value: GuestExceptions::STORE_PAGE_FAULT,
+        },
+    ];
 }
 
 impl Flags for GuestExceptions {
@@ -88,12 +156,27 @@ impl Flags for GuestExceptions {
 #[derive(Clone, Copy, Debug, PartialEq, Eq)]
 pub struct GuestInterrupts(u64);
 
-bitflag_items! {
-    impl GuestInterrupts: u64 {
-        const SOFTWARE = 0x4;
-        const TIMER = 0x40;
-        const EXTERNAL = 0x400;
-    }
+impl GuestInterrupts {
+    pub const SOFTWARE: GuestInterrupts = GuestInterrupts(0x4);
+
+    pub const TIMER: GuestInterrupts = GuestInterrupts(0x40);
+
+    pub const EXTERNAL: GuestInterrupts = GuestInterrupts(0x400);
+
+    pub const FLAGS: &'static [Flag<GuestInterrupts>] = &[
+        Flag {
+            name: "SOFTWARE",
+            value: GuestInterrupts::SOFTWARE,
+        },
+        Flag {
+            name: "TIMER",
+            value: GuestInterrupts::TIMER,
+        },
+        Flag {
+            name: "EXTERNAL",
+            value: GuestInterrupts::EXTERNAL,
+        },
+    ];
 }
 
 impl Flags for GuestInterrupts {

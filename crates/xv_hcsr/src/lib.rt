@@ -8,8 +8,6 @@
 #![tactic(auto)]
 
 mod flags;
-#[cfg(test)]
-mod tests;
 
 ghost use Rattle.std.specs.Prelude.{◌≡◌, ◌≢◌, ◌*◌, ◌<◌, ℕ};
 ghost use Rattle.xv_base.specs.Bits.{has_bit};

@@ -1,5 +1,8 @@
--- The fixed bits of each form as fields of the word: `x & mask` is the sum of the fields that the mask covers.
-use Rattle.std.proofs.Common.{◌≡◌, ℕ, zero, suc, ◌+◌, ◌*◌, ◌/◌, ◌%◌, ◌^◌, ◌<◌, Bool, true, false, ◌&&◌, List, [], ◌∷◌, Some, refl, sym, ap, ◌∙◌, subst, arith, ◌==◌, slice_get}
+-- The fixed bits of each form as fields of the word: `x & mask` is the sum of the fields that the
+-- mask covers.
+use Rattle.std.proofs.Common.{◌≡◌, ℕ, zero, suc, ◌+◌, ◌*◌, ◌/◌, ◌%◌, ◌^◌, ◌<◌, Bool, true, false}
+use Rattle.std.proofs.Common.{◌&&◌, List, [], ◌∷◌, Some, refl, sym, ap, ◌∙◌, subst, arith, ◌==◌}
+use Rattle.std.proofs.Common.{slice_get}
 use Rattle.std.specs.Int.Bits.{bit_and, bit_or}
 use Rattle.std.specs.List.{list_all}
 use Rattle.std.proofs.lemmas.Nat.{and_mask, or_disjoint, and_comm, and_assoc}
@@ -8,7 +11,8 @@ use Rattle.std.proofs.lemmas.Bool.{eqb-true, and_parts}
 use Rattle.xv_isa.specs.declared.rows.Row.{Row}
 use Rattle.xv_isa.specs.declared.rows.Op.{Op}
 use Rattle.xv_isa.specs.declared.rows.Form.{Form}
-use Rattle.xv_isa.specs.declared.rows.Form.TheVariants.{R, I, S, B, U, J, Shift, Csr, Fence, Whole, Sfence, Lr, Amo}
+use Rattle.xv_isa.specs.declared.rows.Form.TheVariants.{R, I, S, B, U, J, Shift, Csr, Fence, Whole}
+use Rattle.xv_isa.specs.declared.rows.Form.TheVariants.{Sfence, Lr, Amo}
 use Rattle.xv_isa.specs.Rows.{rows, mask_at, bits_at, form_of, operation_at}
 use Rattle.xv_isa.specs.Encoding.{is_word_shift}
 use Rattle.xv_isa.proofs.OneRow.{row_get}
@@ -27,7 +31,9 @@ and_or w m n =
 
 and_apart : (w m n : ℕ) → bit_and m n ≡ 0 → bit_and (bit_and w m) (bit_and w n) ≡ 0
 and_apart w m n e =
-    and_assoc (bit_and w n) w m ∙ ap (bit_and w) (and_comm m (bit_and w n) ∙ and_assoc m w n ∙ ap (bit_and w) (and_comm n m ∙ e) ∙ and_comm w 0) ∙ and_comm w 0
+    and_assoc (bit_and w n) w m
+    ∙ ap (bit_and w) (and_comm m (bit_and w n) ∙ and_assoc m w n
+    ∙ ap (bit_and w) (and_comm n m ∙ e) ∙ and_comm w 0) ∙ and_comm w 0
 
 -- a mask of two parts
 pub and_add : (w m n : ℕ) → bit_and m n ≡ 0 → bit_and w (m + n) ≡ bit_and w m + bit_and w n
@@ -46,10 +52,12 @@ and_opcode : (w : ℕ) → bit_and w 0x7f ≡ w % 2 ^ 7
 and_opcode w = and_mask w 7
 
 and_funct3 : (w : ℕ) → bit_and w 0x707f ≡ w % 2 ^ 7 + part 3 12 w
-and_funct3 w = and_add w 0x7f 0x7000 refl ∙ ap (λ x. x + bit_and w 0x7000) (and_opcode w) ∙ ap (λ x. w % 2 ^ 7 + x) (and_high w 3 12)
+and_funct3 w = and_add w 0x7f 0x7000 refl ∙ ap (λ x. x + bit_and w 0x7000) (and_opcode w)
+    ∙ ap (λ x. w % 2 ^ 7 + x) (and_high w 3 12)
 
 -- one run more
-more : (w m n x y : ℕ) → bit_and m n ≡ 0 → bit_and w m ≡ x → bit_and w n ≡ y → bit_and w (m + n) ≡ x + y
+more : (w m n x y : ℕ) → bit_and m n ≡ 0 → bit_and w m ≡ x → bit_and w n ≡ y
+    → bit_and w (m + n) ≡ x + y
 more w m n x y e p q = and_add w m n e ∙ ap (λ z. z + bit_and w n) p ∙ ap (λ z. x + z) q
 
 and_funct7 : (w : ℕ) → bit_and w 0xfe00707f ≡ w % 2 ^ 7 + part 3 12 w + part 7 25 w
@@ -122,7 +130,8 @@ masked Amo n w = and_funct5 w
 
 -- ---- the table has these shapes
 
--- where a row's own fields lie, its fixed bits are 0 outside of its mask: only these are not read from the mask
+-- where a row's own fields lie, its fixed bits are 0 outside of its mask: only these are not read
+-- from the mask
 abbrev pub clear_of : Form → Bool → ℕ → Bool
 clear_of Shift true b = b / 2 ^ 25 % 2 == 0
 clear_of f narrow b = true
@@ -138,10 +147,12 @@ rows_shaped : list_all row_shaped rows ≡ true
 unfolding rows row_shaped
 rows_shaped = refl
 
-shaped_at : (xs : List Row) (k : ℕ) (r : Row) → list_all row_shaped xs ≡ true → slice_get xs k ≡ Some r → row_shaped r ≡ true
+shaped_at : (xs : List Row) (k : ℕ) (r : Row) → list_all row_shaped xs ≡ true
+    → slice_get xs k ≡ Some r → row_shaped r ≡ true
 shaped_at [] k r t e = cc
 shaped_at (x ∷ xs) zero r t e =
-    let same : x ≡ r = cc in subst (λ (y : Row). row_shaped y ≡ true) same (and_parts (row_shaped x) _ t).0
+    let same : x ≡ r = cc in
+    subst (λ (y : Row). row_shaped y ≡ true) same (and_parts (row_shaped x) _ t).0
 shaped_at (x ∷ xs) (suc k) r t e = shaped_at xs k r (and_parts (row_shaped x) _ t).1 e
 
 pub record Shaped (f : Form) (narrow : Bool) (mask bits : ℕ) : Type 0 where
@@ -149,18 +160,23 @@ pub record Shaped (f : Form) (narrow : Bool) (mask bits : ℕ) : Type 0 where
   pub bits_are : bits ≡ fixed_of f narrow bits
   pub clear : clear_of f narrow bits ≡ true
 
-from_test : (f : Form) (narrow : Bool) (mask bits : ℕ) → shaped f narrow mask bits ≡ true → Shaped f narrow mask bits
+from_test : (f : Form) (narrow : Bool) (mask bits : ℕ) → shaped f narrow mask bits ≡ true
+    → Shaped f narrow mask bits
 from_test f narrow mask bits t =
-    let p = and_parts (mask == mask_of f narrow) ((bits == fixed_of f narrow bits) && clear_of f narrow bits) t in
+    let p = and_parts (mask == mask_of f narrow) ((bits == fixed_of f narrow bits)
+    && clear_of f narrow bits) t in
     let q = and_parts (bits == fixed_of f narrow bits) (clear_of f narrow bits) p.1 in
     record { mask_is = eqb-true _ _ p.0; bits_are = eqb-true _ _ q.0; clear = q.1 }
 
-pub row_shape : (k : ℕ) (r : Row) → slice_get rows k ≡ Some r → Shaped r.form (is_word_shift r.op) r.mask r.bits
+pub row_shape : (k : ℕ) (r : Row) → slice_get rows k ≡ Some r
+    → Shaped r.form (is_word_shift r.op) r.mask r.bits
 unfolding row_shaped
-row_shape k r e = from_test r.form (is_word_shift r.op) r.mask r.bits (shaped_at rows k r rows_shaped e)
+row_shape k r e =
+    from_test r.form (is_word_shift r.op) r.mask r.bits (shaped_at rows k r rows_shaped e)
 
 -- the same at a place
-pub place_shape : (k : ℕ) → k < 97 → Shaped (form_of k) (is_word_shift (operation_at k)) (mask_at rows k) (bits_at rows k)
+pub place_shape : (k : ℕ) → k < 97
+    → Shaped (form_of k) (is_word_shift (operation_at k)) (mask_at rows k) (bits_at rows k)
 place_shape k h =
     let r = row_get k h in
     let a = row_shape k r.0 r.1 in

@@ -1,19 +1,35 @@
--- The effect of each row: what the instruction asks of the hart, as a function of its fields, the registers,
--- the pc, and where the next instruction stands, which is no matter of the fields: it depends on the length
--- of the word. Registers are a list of 32 numbers below 2^64, of which x0 reads 0; the pc is a number below
--- 2^64. What an asked thing does (translation, faults, traps, the CSRs) is the hart's.
--- Unprivileged ISA 20191213, chapters 2, 5, 7, 8 and 9; Privileged Architecture 20211203, sections 3.3 and 4.2.
-use Rattle.std.specs.Prelude.{ℕ, ◌+◌, ◌*◌, ◌/◌, ◌%◌, ◌^◌, ◌==◌, Bool, true, false, not, nat_lt, if◌then◌else◌, List, ℤ, slice_index}
+-- The effect of each row: what the instruction asks of the hart, as a function of its fields, the
+-- registers, the pc, and where the next instruction stands, which is no matter of the fields: it
+-- depends on the length of the word. Registers are a list of 32 numbers below 2^64, of which x0
+-- reads 0; the pc is a number below 2^64. What an asked thing does (translation, faults, traps, the
+-- CSRs) is the hart's. Unprivileged ISA 20191213, chapters 2, 5, 7, 8 and 9; Privileged
+-- Architecture 20211203, sections 3.3 and 4.2.
+use Rattle.std.specs.Prelude.{ℕ, ◌+◌, ◌*◌, ◌/◌, ◌%◌, ◌^◌, ◌==◌, Bool, true, false, not, nat_lt}
+use Rattle.std.specs.Prelude.{if◌then◌else◌, List, ℤ, slice_index}
 use Rattle.std.specs.Int.RustNames.{int_lt}
 use Rattle.xv_isa.specs.declared.instruction.Insn.{Insn}
 use Rattle.xv_isa.specs.declared.rows.Op.{Op}
-use Rattle.xv_isa.specs.declared.rows.Op.TheVariants.{Lui, Auipc, Jal, Jalr, Beq, Bne, Blt, Bge, Bltu, Bgeu, Lb, Lh, Lw, Ld, Lbu, Lhu, Lwu, Sb, Sh, Sw, Sd, Addi, Slti, Sltiu, Xori, Ori, Andi, Slli, Srli, Srai, Addiw, Slliw, Srliw, Sraiw, Add, Sll, Slt, Sltu, Xor, Srl, Or, And, Sub, Sra, Mul, Mulh, Mulhsu, Mulhu, Div, Divu, Rem, Remu, Addw, Sllw, Srlw, Subw, Sraw, Mulw, Divw, Divuw, Remw, Remuw, Fence, FenceI, Ecall, Ebreak, Sret, Wfi, SfenceVma, Csrrw, Csrrs, Csrrc, Csrrwi, Csrrsi, Csrrci, LrW, LrD, ScW, ScD, AmoswapW, AmoswapD, AmoaddW, AmoaddD, AmoxorW, AmoxorD, AmoandW, AmoandD, AmoorW, AmoorD, AmominW, AmominD, AmomaxW, AmomaxD, AmominuW, AmominuD, AmomaxuW, AmomaxuD}
+use Rattle.xv_isa.specs.declared.rows.Op.TheVariants.{Lui, Auipc, Jal, Jalr, Beq, Bne, Blt, Bge}
+use Rattle.xv_isa.specs.declared.rows.Op.TheVariants.{Bltu, Bgeu, Lb, Lh, Lw, Ld, Lbu, Lhu, Lwu, Sb}
+use Rattle.xv_isa.specs.declared.rows.Op.TheVariants.{Sh, Sw, Sd, Addi, Slti, Sltiu, Xori, Ori}
+use Rattle.xv_isa.specs.declared.rows.Op.TheVariants.{Andi, Slli, Srli, Srai, Addiw, Slliw, Srliw}
+use Rattle.xv_isa.specs.declared.rows.Op.TheVariants.{Sraiw, Add, Sll, Slt, Sltu, Xor, Srl, Or, And}
+use Rattle.xv_isa.specs.declared.rows.Op.TheVariants.{Sub, Sra, Mul, Mulh, Mulhsu, Mulhu, Div, Divu}
+use Rattle.xv_isa.specs.declared.rows.Op.TheVariants.{Rem, Remu, Addw, Sllw, Srlw, Subw, Sraw, Mulw}
+use Rattle.xv_isa.specs.declared.rows.Op.TheVariants.{Divw, Divuw, Remw, Remuw, Fence, FenceI}
+use Rattle.xv_isa.specs.declared.rows.Op.TheVariants.{Ecall, Ebreak, Sret, Wfi, SfenceVma, Csrrw}
+use Rattle.xv_isa.specs.declared.rows.Op.TheVariants.{Csrrs, Csrrc, Csrrwi, Csrrsi, Csrrci, LrW}
+use Rattle.xv_isa.specs.declared.rows.Op.TheVariants.{LrD, ScW, ScD, AmoswapW, AmoswapD, AmoaddW}
+use Rattle.xv_isa.specs.declared.rows.Op.TheVariants.{AmoaddD, AmoxorW, AmoxorD, AmoandW, AmoandD}
+use Rattle.xv_isa.specs.declared.rows.Op.TheVariants.{AmoorW, AmoorD, AmominW, AmominD, AmomaxW}
+use Rattle.xv_isa.specs.declared.rows.Op.TheVariants.{AmomaxD, AmominuW, AmominuD, AmomaxuW}
+use Rattle.xv_isa.specs.declared.rows.Op.TheVariants.{AmomaxuD}
 use Rattle.xv_isa.specs.Operands.{sign_extended}
 use Rattle.xv_isa.specs.Results.{result_of, residue, signed_at}
 use Rattle.xv_isa.specs.Rows.{operation_at}
 
--- a plain access to memory: `width` bytes at a virtual address. A load extends them with their sign or with
--- zeros into rd
+-- a plain access to memory: `width` bytes at a virtual address. A load extends them with their sign
+-- or with zeros into rd
 pub data Access : Type 0 where
   Load : (width : ℕ) → (signed : Bool) → (address : ℕ) → (rd : ℕ) → Access
   Store : (width : ℕ) → (address : ℕ) → (value : ℕ) → Access
@@ -25,8 +41,8 @@ pub data CsrChange : Type 0 where
   BitsCleared : (value : ℕ) → CsrChange
   Unwritten : CsrChange
 
--- what an instruction asks. Where it isn't said otherwise the hart goes on at the next instruction. Where rd
--- is 0 no register is written
+-- what an instruction asks. Where it isn't said otherwise the hart goes on at the next instruction.
+-- Where rd is 0 no register is written
 pub data Action : Type 0 where
   -- rd becomes the value
   Set : (rd : ℕ) → (value : ℕ) → Action
@@ -36,10 +52,11 @@ pub data Action : Type 0 where
   Plain : Access → Action
   -- LR: rd becomes the sign extension of the bytes, and they are reserved
   LoadReserved : (width : ℕ) → (address : ℕ) → (rd : ℕ) → Action
-  -- SC: the low bytes of the value are stored where the reservation is held, and rd becomes 0, else 1
+  -- SC: the low bytes of the value are stored where the reservation is held, and rd becomes 0, else
+  -- 1
   StoreConditional : (width : ℕ) → (address : ℕ) → (value : ℕ) → (rd : ℕ) → Action
-  -- an AMO: rd becomes the sign extension of the old bytes, and the low bytes of the operation's result on
-  -- it and the value are stored
+  -- an AMO: rd becomes the sign extension of the old bytes, and the low bytes of the operation's
+  -- result on it and the value are stored
   Modify : (op : Op) → (width : ℕ) → (address : ℕ) → (value : ℕ) → (rd : ℕ) → Action
   -- rd becomes the CSR's old value, and the CSR changes
   AccessCsr : (number : ℕ) → (change : CsrChange) → (rd : ℕ) → Action
@@ -119,9 +136,11 @@ effect Jalr i rs pc next = Jump (moved (register rs i.rs1) i.imm / 2 * 2) i.rd n
 effect Beq i rs pc next = branch_if (equal (register rs i.rs1) (register rs i.rs2)) i pc next
 effect Bne i rs pc next = branch_if (not (equal (register rs i.rs1) (register rs i.rs2))) i pc next
 effect Blt i rs pc next = branch_if (below_signed (register rs i.rs1) (register rs i.rs2)) i pc next
-effect Bge i rs pc next = branch_if (not (below_signed (register rs i.rs1) (register rs i.rs2))) i pc next
+effect Bge i rs pc next =
+    branch_if (not (below_signed (register rs i.rs1) (register rs i.rs2))) i pc next
 effect Bltu i rs pc next = branch_if (nat_lt (register rs i.rs1) (register rs i.rs2)) i pc next
-effect Bgeu i rs pc next = branch_if (not (nat_lt (register rs i.rs1) (register rs i.rs2))) i pc next
+effect Bgeu i rs pc next =
+    branch_if (not (nat_lt (register rs i.rs1) (register rs i.rs2))) i pc next
 effect Lb i rs pc next = load_at 1 true i rs
 effect Lh i rs pc next = load_at 2 true i rs
 effect Lw i rs pc next = load_at 4 true i rs
@@ -189,8 +208,10 @@ effect Csrrsi i rs pc next = access_csr (unless_zero i.rs1 (BitsSet i.rs1)) i
 effect Csrrci i rs pc next = access_csr (unless_zero i.rs1 (BitsCleared i.rs1)) i
 effect LrW i rs pc next = LoadReserved 4 (register rs i.rs1) i.rd
 effect LrD i rs pc next = LoadReserved 8 (register rs i.rs1) i.rd
-effect ScW i rs pc next = StoreConditional 4 (register rs i.rs1) (low_bytes 4 (register rs i.rs2)) i.rd
-effect ScD i rs pc next = StoreConditional 8 (register rs i.rs1) (low_bytes 8 (register rs i.rs2)) i.rd
+effect ScW i rs pc next =
+    StoreConditional 4 (register rs i.rs1) (low_bytes 4 (register rs i.rs2)) i.rd
+effect ScD i rs pc next =
+    StoreConditional 8 (register rs i.rs1) (low_bytes 8 (register rs i.rs2)) i.rd
 effect AmoswapW i rs pc next = modify_at AmoswapW 4 i rs
 effect AmoswapD i rs pc next = modify_at AmoswapD 8 i rs
 effect AmoaddW i rs pc next = modify_at AmoaddW 4 i rs

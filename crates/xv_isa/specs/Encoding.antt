@@ -1,11 +1,13 @@
--- The ranges of an instruction's fields, and the word of an instruction: the row's fixed bits and each
--- operand at its place. Unprivileged ISA 20191213, figures 2.2 to 2.4. No form has a bit that is neither
--- fixed nor part of a field, so a word and its instruction determine each other.
-use Rattle.std.specs.Prelude.{ℕ, suc, ◌+◌, ◌-◌, ◌*◌, ◌^◌, ◌<◌, ◌≡◌, ℤ, pos, negsuc, neg_ℤ, ◌≤ℤ◌, ◌<ℤ◌, Bool, true, false}
+-- The ranges of an instruction's fields, and the word of an instruction: the row's fixed bits and
+-- each operand at its place. Unprivileged ISA 20191213, figures 2.2 to 2.4. No form has a bit that
+-- is neither fixed nor part of a field, so a word and its instruction determine each other.
+use Rattle.std.specs.Prelude.{ℕ, suc, ◌+◌, ◌-◌, ◌*◌, ◌^◌, ◌<◌, ◌≡◌, ℤ, pos, negsuc, neg_ℤ, ◌≤ℤ◌}
+use Rattle.std.specs.Prelude.{◌<ℤ◌, Bool, true, false}
 use Rattle.std.specs.Int.RustNames.{int_rem}
 use Rattle.xv_isa.specs.declared.instruction.Insn.{Insn}
 use Rattle.xv_isa.specs.declared.rows.Form.{Form}
-use Rattle.xv_isa.specs.declared.rows.Form.TheVariants.{R, I, S, B, U, J, Shift, Csr, Fence, Whole, Sfence, Lr, Amo}
+use Rattle.xv_isa.specs.declared.rows.Form.TheVariants.{R, I, S, B, U, J, Shift, Csr, Fence, Whole}
+use Rattle.xv_isa.specs.declared.rows.Form.TheVariants.{Sfence, Lr, Amo}
 use Rattle.xv_isa.specs.declared.rows.Op.{Op}
 use Rattle.xv_isa.specs.declared.rows.Op.TheVariants.{Slliw, Srliw, Sraiw}
 use Rattle.xv_isa.specs.Rows.{rows, bits_at, form_of, operation_at}
@@ -40,10 +42,15 @@ abbrev pub FitsForm : Form → Op → Insn → Type 0
 FitsForm R o i = (i.rd < 32) × (i.rs1 < 32) × (i.rs2 < 32) × (i.imm ≡ pos 0) × (i.extra ≡ 0)
 FitsForm I o i = (i.rd < 32) × (i.rs1 < 32) × (i.rs2 ≡ 0) × HasBits 12 i.imm × (i.extra ≡ 0)
 FitsForm S o i = (i.rd ≡ 0) × (i.rs1 < 32) × (i.rs2 < 32) × HasBits 12 i.imm × (i.extra ≡ 0)
-FitsForm B o i = (i.rd ≡ 0) × (i.rs1 < 32) × (i.rs2 < 32) × HasBits 13 i.imm × IsMultiple 2 i.imm × (i.extra ≡ 0)
-FitsForm U o i = (i.rd < 32) × (i.rs1 ≡ 0) × (i.rs2 ≡ 0) × HasBits 32 i.imm × IsMultiple 4096 i.imm × (i.extra ≡ 0)
-FitsForm J o i = (i.rd < 32) × (i.rs1 ≡ 0) × (i.rs2 ≡ 0) × HasBits 21 i.imm × IsMultiple 2 i.imm × (i.extra ≡ 0)
-FitsForm Shift o i = (i.rd < 32) × (i.rs1 < 32) × (i.rs2 ≡ 0) × IsBelow (amount_bound (is_word_shift o)) i.imm × (i.extra ≡ 0)
+FitsForm B o i =
+    (i.rd ≡ 0) × (i.rs1 < 32) × (i.rs2 < 32) × HasBits 13 i.imm × IsMultiple 2 i.imm × (i.extra ≡ 0)
+FitsForm U o i = (i.rd < 32) × (i.rs1 ≡ 0) × (i.rs2 ≡ 0) × HasBits 32 i.imm × IsMultiple 4096 i.imm
+    × (i.extra ≡ 0)
+FitsForm J o i =
+    (i.rd < 32) × (i.rs1 ≡ 0) × (i.rs2 ≡ 0) × HasBits 21 i.imm × IsMultiple 2 i.imm × (i.extra ≡ 0)
+FitsForm Shift o i =
+    (i.rd < 32) × (i.rs1 < 32) × (i.rs2 ≡ 0) × IsBelow (amount_bound (is_word_shift o)) i.imm
+    × (i.extra ≡ 0)
 FitsForm Csr o i = (i.rd < 32) × (i.rs1 < 32) × (i.rs2 ≡ 0) × IsBelow 4096 i.imm × (i.extra ≡ 0)
 FitsForm Fence o i = (i.rd < 32) × (i.rs1 < 32) × (i.rs2 ≡ 0) × IsBelow 4096 i.imm × (i.extra ≡ 0)
 FitsForm Whole o i = (i.rd ≡ 0) × (i.rs1 ≡ 0) × (i.rs2 ≡ 0) × (i.imm ≡ pos 0) × (i.extra ≡ 0)
@@ -76,13 +83,15 @@ abbrev pub s_places : ℕ → ℕ
 s_places n = inst n 4 0 * 2 ^ 7 + inst n 11 5 * 2 ^ 25
 
 abbrev pub b_places : ℕ → ℕ
-b_places n = inst_bit n 11 * 2 ^ 7 + inst n 4 1 * 2 ^ 8 + inst n 10 5 * 2 ^ 25 + inst_bit n 12 * 2 ^ 31
+b_places n =
+    inst_bit n 11 * 2 ^ 7 + inst n 4 1 * 2 ^ 8 + inst n 10 5 * 2 ^ 25 + inst_bit n 12 * 2 ^ 31
 
 abbrev pub u_places : ℕ → ℕ
 u_places n = inst n 31 12 * 2 ^ 12
 
 abbrev pub j_places : ℕ → ℕ
-j_places n = inst n 19 12 * 2 ^ 12 + inst_bit n 11 * 2 ^ 20 + inst n 10 1 * 2 ^ 21 + inst_bit n 20 * 2 ^ 31
+j_places n =
+    inst n 19 12 * 2 ^ 12 + inst_bit n 11 * 2 ^ 20 + inst n 10 1 * 2 ^ 21 + inst_bit n 20 * 2 ^ 31
 
 -- the operands at their places
 abbrev pub placed : Form → Insn → ℕ

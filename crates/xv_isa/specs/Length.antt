@@ -1,4 +1,5 @@
--- The length of an instruction, and where the next one stands (Unprivileged ISA 20191213, section 1.5).
+-- The length of an instruction, and where the next one stands (Unprivileged ISA 20191213, section
+-- 1.5).
 use Rattle.std.specs.Prelude.{ℕ, ◌+◌, ◌%◌, ◌^◌}
 
 -- the bytes that a fetch reads

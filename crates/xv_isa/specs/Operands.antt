@@ -1,9 +1,11 @@
--- The operands of a word and the decoded instruction.
--- Unprivileged ISA 20191213, sections 2.2 and 2.3 (figures 2.2 to 2.4), 5.2, 7.3, 8.2 to 8.4 and 9.1.
-use Rattle.std.specs.Prelude.{ℕ, ◌+◌, ◌-◌, ◌*◌, ◌/◌, ◌%◌, ◌^◌, nat_lt, if◌then◌else◌, ℤ, pos, ◌-ℤ◌, Option, option_map}
+-- The operands of a word and the decoded instruction. Unprivileged ISA 20191213, sections 2.2 and
+-- 2.3 (figures 2.2 to 2.4), 5.2, 7.3, 8.2 to 8.4 and 9.1.
+use Rattle.std.specs.Prelude.{ℕ, ◌+◌, ◌-◌, ◌*◌, ◌/◌, ◌%◌, ◌^◌, nat_lt, if◌then◌else◌, ℤ, pos, ◌-ℤ◌}
+use Rattle.std.specs.Prelude.{Option, option_map}
 use Rattle.xv_isa.specs.declared.instruction.Insn.{Insn}
 use Rattle.xv_isa.specs.declared.rows.Form.{Form}
-use Rattle.xv_isa.specs.declared.rows.Form.TheVariants.{R, I, S, B, U, J, Shift, Csr, Fence, Whole, Sfence, Lr, Amo}
+use Rattle.xv_isa.specs.declared.rows.Form.TheVariants.{R, I, S, B, U, J, Shift, Csr, Fence, Whole}
+use Rattle.xv_isa.specs.declared.rows.Form.TheVariants.{Sfence, Lr, Amo}
 use Rattle.xv_isa.specs.Rows.{row_of, form_of}
 
 -- bits high to low of a word, which the standard writes inst[high:low]
@@ -68,19 +70,38 @@ ordering_of word = inst word 26 25
 
 -- the operands that a form reads; every other field is 0
 abbrev pub operands_of : Form → ℕ → ℕ → Insn
-operands_of R k w = record { row = k; rd = rd_of w; rs1 = rs1_of w; rs2 = rs2_of w; imm = pos 0; extra = 0 }
-operands_of I k w = record { row = k; rd = rd_of w; rs1 = rs1_of w; rs2 = 0; imm = i_immediate w; extra = 0 }
-operands_of S k w = record { row = k; rd = 0; rs1 = rs1_of w; rs2 = rs2_of w; imm = s_immediate w; extra = 0 }
-operands_of B k w = record { row = k; rd = 0; rs1 = rs1_of w; rs2 = rs2_of w; imm = b_immediate w; extra = 0 }
-operands_of U k w = record { row = k; rd = rd_of w; rs1 = 0; rs2 = 0; imm = u_immediate w; extra = 0 }
-operands_of J k w = record { row = k; rd = rd_of w; rs1 = 0; rs2 = 0; imm = j_immediate w; extra = 0 }
-operands_of Shift k w = record { row = k; rd = rd_of w; rs1 = rs1_of w; rs2 = 0; imm = shift_amount w; extra = 0 }
-operands_of Csr k w = record { row = k; rd = rd_of w; rs1 = rs1_of w; rs2 = 0; imm = upper_twelve w; extra = 0 }
-operands_of Fence k w = record { row = k; rd = rd_of w; rs1 = rs1_of w; rs2 = 0; imm = upper_twelve w; extra = 0 }
+operands_of R k w =
+    record { row = k; rd = rd_of w; rs1 = rs1_of w; rs2 = rs2_of w; imm = pos 0; extra = 0 }
+operands_of I k w =
+    record { row = k; rd = rd_of w; rs1 = rs1_of w; rs2 = 0; imm = i_immediate w; extra = 0 }
+operands_of S k w =
+    record { row = k; rd = 0; rs1 = rs1_of w; rs2 = rs2_of w; imm = s_immediate w; extra = 0 }
+operands_of B k w =
+    record { row = k; rd = 0; rs1 = rs1_of w; rs2 = rs2_of w; imm = b_immediate w; extra = 0 }
+operands_of U k w =
+    record { row = k; rd = rd_of w; rs1 = 0; rs2 = 0; imm = u_immediate w; extra = 0 }
+operands_of J k w =
+    record { row = k; rd = rd_of w; rs1 = 0; rs2 = 0; imm = j_immediate w; extra = 0 }
+operands_of Shift k w =
+    record { row = k; rd = rd_of w; rs1 = rs1_of w; rs2 = 0; imm = shift_amount w; extra = 0 }
+operands_of Csr k w =
+    record { row = k; rd = rd_of w; rs1 = rs1_of w; rs2 = 0; imm = upper_twelve w; extra = 0 }
+operands_of Fence k w =
+    record { row = k; rd = rd_of w; rs1 = rs1_of w; rs2 = 0; imm = upper_twelve w; extra = 0 }
 operands_of Whole k w = record { row = k; rd = 0; rs1 = 0; rs2 = 0; imm = pos 0; extra = 0 }
-operands_of Sfence k w = record { row = k; rd = 0; rs1 = rs1_of w; rs2 = rs2_of w; imm = pos 0; extra = 0 }
-operands_of Lr k w = record { row = k; rd = rd_of w; rs1 = rs1_of w; rs2 = 0; imm = pos 0; extra = ordering_of w }
-operands_of Amo k w = record { row = k; rd = rd_of w; rs1 = rs1_of w; rs2 = rs2_of w; imm = pos 0; extra = ordering_of w }
+operands_of Sfence k w =
+    record { row = k; rd = 0; rs1 = rs1_of w; rs2 = rs2_of w; imm = pos 0; extra = 0 }
+operands_of Lr k w =
+    record { row = k; rd = rd_of w; rs1 = rs1_of w; rs2 = 0; imm = pos 0; extra = ordering_of w }
+operands_of Amo k w =
+    record {
+      row = k;
+      rd = rd_of w;
+      rs1 = rs1_of w;
+      rs2 = rs2_of w;
+      imm = pos 0;
+      extra = ordering_of w;
+    }
 
 -- the instruction of a word, or none where no row matches: the word is illegal
 unfoldable pub decode_of : ℕ → Option Insn

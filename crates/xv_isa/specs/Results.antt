@@ -1,13 +1,24 @@
--- The integer results of the rows of I, M and A, over whole numbers. Registers are unsigned numbers of 64
--- bits; a result is taken modulo 2^64. a is the value of rs1, or the pc for AUIPC, or the sign extension
--- of the old bytes for an AMO; b is the value of rs2, the immediate or the shift amount, modulo 2^64.
--- Unprivileged ISA 20191213, sections 2.4, 5.2, 7.1, 7.2 and 8.4. An operation without a result gives 0.
-use Rattle.std.specs.Prelude.{ℕ, suc, ◌+◌, ◌-◌, ◌*◌, ◌/◌, ◌%◌, ◌^◌, ◌==◌, nat_lt, if◌then◌else◌, ℤ, pos, negsuc, ◌-ℤ◌, ◌*ℤ◌}
+-- The integer results of the rows of I, M and A, over whole numbers. Registers are unsigned numbers
+-- of 64 bits; a result is taken modulo 2^64. a is the value of rs1, or the pc for AUIPC, or the
+-- sign extension of the old bytes for an AMO; b is the value of rs2, the immediate or the shift
+-- amount, modulo 2^64. Unprivileged ISA 20191213, sections 2.4, 5.2, 7.1, 7.2 and 8.4. An operation
+-- without a result gives 0.
+use Rattle.std.specs.Prelude.{ℕ, suc, ◌+◌, ◌-◌, ◌*◌, ◌/◌, ◌%◌, ◌^◌, ◌==◌, nat_lt, if◌then◌else◌, ℤ}
+use Rattle.std.specs.Prelude.{pos, negsuc, ◌-ℤ◌, ◌*ℤ◌}
 use Rattle.std.specs.Int.Bits.{bit_and, bit_or, bit_xor}
 use Rattle.std.specs.Int.RustNames.{int_lt, int_div, int_rem}
 use Rattle.xv_isa.specs.declared.rows.Op.{Op}
 use Rattle.xv_isa.specs.Operands.{sign_extended}
-use Rattle.xv_isa.specs.declared.rows.Op.TheVariants.{Lui, Auipc, Addi, Slti, Sltiu, Xori, Ori, Andi, Slli, Srli, Srai, Addiw, Slliw, Srliw, Sraiw, Add, Sll, Slt, Sltu, Xor, Srl, Or, And, Sub, Sra, Mul, Mulh, Mulhsu, Mulhu, Div, Divu, Rem, Remu, Addw, Sllw, Srlw, Subw, Sraw, Mulw, Divw, Divuw, Remw, Remuw, AmoswapW, AmoswapD, AmoaddW, AmoaddD, AmoxorW, AmoxorD, AmoandW, AmoandD, AmoorW, AmoorD, AmominW, AmominD, AmomaxW, AmomaxD, AmominuW, AmominuD, AmomaxuW, AmomaxuD}
+use Rattle.xv_isa.specs.declared.rows.Op.TheVariants.{Lui, Auipc, Addi, Slti, Sltiu, Xori, Ori}
+use Rattle.xv_isa.specs.declared.rows.Op.TheVariants.{Andi, Slli, Srli, Srai, Addiw, Slliw, Srliw}
+use Rattle.xv_isa.specs.declared.rows.Op.TheVariants.{Sraiw, Add, Sll, Slt, Sltu, Xor, Srl, Or, And}
+use Rattle.xv_isa.specs.declared.rows.Op.TheVariants.{Sub, Sra, Mul, Mulh, Mulhsu, Mulhu, Div, Divu}
+use Rattle.xv_isa.specs.declared.rows.Op.TheVariants.{Rem, Remu, Addw, Sllw, Srlw, Subw, Sraw, Mulw}
+use Rattle.xv_isa.specs.declared.rows.Op.TheVariants.{Divw, Divuw, Remw, Remuw, AmoswapW, AmoswapD}
+use Rattle.xv_isa.specs.declared.rows.Op.TheVariants.{AmoaddW, AmoaddD, AmoxorW, AmoxorD, AmoandW}
+use Rattle.xv_isa.specs.declared.rows.Op.TheVariants.{AmoandD, AmoorW, AmoorD, AmominW, AmominD}
+use Rattle.xv_isa.specs.declared.rows.Op.TheVariants.{AmomaxW, AmomaxD, AmominuW, AmominuD}
+use Rattle.xv_isa.specs.declared.rows.Op.TheVariants.{AmomaxuW, AmomaxuD}
 
 -- ---- readings
 
@@ -75,7 +86,8 @@ product_of a b = a * b % 2 ^ 64
 abbrev pub high_half : ℤ → ℕ
 high_half z = residue 64 (floor_div z (2 ^ 64))
 
--- ---- quotients, rounded towards zero: by zero all ones, and the dividend remains. The least number by -1
+-- ---- quotients, rounded towards zero: by zero all ones, and the dividend remains. The least
+-- number by -1
 -- gives a quotient of its size, which is the least number again modulo 2^64, and nothing remains
 
 abbrev pub quotient_signed : ℕ → ℕ → ℕ

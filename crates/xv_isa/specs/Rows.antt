@@ -1,12 +1,28 @@
--- The instruction table as data, in the words of the standard, and the row of a word.
--- Unprivileged ISA 20191213, chapter 24; Privileged Architecture 20211203, sections 3.3.2, 3.3.3 and 4.2.1.
-use Rattle.std.specs.Prelude.{ℕ, zero, suc, ◌+◌, ◌-◌, ◌*◌, ◌^◌, ◌==◌, ◌≡◌, ◌<◌, if◌then◌else◌, List, [], ◌∷◌, Option, None, Some}
+-- The instruction table as data, in the words of the standard, and the row of a word. Unprivileged
+-- ISA 20191213, chapter 24; Privileged Architecture 20211203, sections 3.3.2, 3.3.3 and 4.2.1.
+use Rattle.std.specs.Prelude.{ℕ, zero, suc, ◌+◌, ◌-◌, ◌*◌, ◌^◌, ◌==◌, ◌≡◌, ◌<◌, if◌then◌else◌, List}
+use Rattle.std.specs.Prelude.{[], ◌∷◌, Option, None, Some}
 use Rattle.std.specs.Int.Bits.{bit_and}
 use Rattle.xv_isa.specs.declared.rows.Row.{Row}
 use Rattle.xv_isa.specs.declared.rows.Form.{Form}
-use Rattle.xv_isa.specs.declared.rows.Form.TheVariants.{R, I, S, B, U, J, Shift, Csr, Fence as FenceForm, Whole, Sfence, Lr, Amo}
+use Rattle.xv_isa.specs.declared.rows.Form.TheVariants.{R, I, S, B, U, J, Shift, Csr}
+use Rattle.xv_isa.specs.declared.rows.Form.TheVariants.{Fence as FenceForm, Whole, Sfence, Lr, Amo}
 use Rattle.xv_isa.specs.declared.rows.Op.{Op}
-use Rattle.xv_isa.specs.declared.rows.Op.TheVariants.{Lui, Auipc, Jal, Jalr, Beq, Bne, Blt, Bge, Bltu, Bgeu, Lb, Lh, Lw, Ld, Lbu, Lhu, Lwu, Sb, Sh, Sw, Sd, Addi, Slti, Sltiu, Xori, Ori, Andi, Slli, Srli, Srai, Addiw, Slliw, Srliw, Sraiw, Add, Sll, Slt, Sltu, Xor, Srl, Or, And, Sub, Sra, Mul, Mulh, Mulhsu, Mulhu, Div, Divu, Rem, Remu, Addw, Sllw, Srlw, Subw, Sraw, Mulw, Divw, Divuw, Remw, Remuw, Fence, FenceI, Ecall, Ebreak, Sret, Wfi, SfenceVma, Csrrw, Csrrs, Csrrc, Csrrwi, Csrrsi, Csrrci, LrW, LrD, ScW, ScD, AmoswapW, AmoswapD, AmoaddW, AmoaddD, AmoxorW, AmoxorD, AmoandW, AmoandD, AmoorW, AmoorD, AmominW, AmominD, AmomaxW, AmomaxD, AmominuW, AmominuD, AmomaxuW, AmomaxuD}
+use Rattle.xv_isa.specs.declared.rows.Op.TheVariants.{Lui, Auipc, Jal, Jalr, Beq, Bne, Blt, Bge}
+use Rattle.xv_isa.specs.declared.rows.Op.TheVariants.{Bltu, Bgeu, Lb, Lh, Lw, Ld, Lbu, Lhu, Lwu, Sb}
+use Rattle.xv_isa.specs.declared.rows.Op.TheVariants.{Sh, Sw, Sd, Addi, Slti, Sltiu, Xori, Ori}
+use Rattle.xv_isa.specs.declared.rows.Op.TheVariants.{Andi, Slli, Srli, Srai, Addiw, Slliw, Srliw}
+use Rattle.xv_isa.specs.declared.rows.Op.TheVariants.{Sraiw, Add, Sll, Slt, Sltu, Xor, Srl, Or, And}
+use Rattle.xv_isa.specs.declared.rows.Op.TheVariants.{Sub, Sra, Mul, Mulh, Mulhsu, Mulhu, Div, Divu}
+use Rattle.xv_isa.specs.declared.rows.Op.TheVariants.{Rem, Remu, Addw, Sllw, Srlw, Subw, Sraw, Mulw}
+use Rattle.xv_isa.specs.declared.rows.Op.TheVariants.{Divw, Divuw, Remw, Remuw, Fence, FenceI}
+use Rattle.xv_isa.specs.declared.rows.Op.TheVariants.{Ecall, Ebreak, Sret, Wfi, SfenceVma, Csrrw}
+use Rattle.xv_isa.specs.declared.rows.Op.TheVariants.{Csrrs, Csrrc, Csrrwi, Csrrsi, Csrrci, LrW}
+use Rattle.xv_isa.specs.declared.rows.Op.TheVariants.{LrD, ScW, ScD, AmoswapW, AmoswapD, AmoaddW}
+use Rattle.xv_isa.specs.declared.rows.Op.TheVariants.{AmoaddD, AmoxorW, AmoxorD, AmoandW, AmoandD}
+use Rattle.xv_isa.specs.declared.rows.Op.TheVariants.{AmoorW, AmoorD, AmominW, AmominD, AmomaxW}
+use Rattle.xv_isa.specs.declared.rows.Op.TheVariants.{AmomaxD, AmominuW, AmominuD, AmomaxuW}
+use Rattle.xv_isa.specs.declared.rows.Op.TheVariants.{AmomaxuD}
 
 -- ---- the fixed fields: a field's number at its place
 
@@ -95,20 +111,40 @@ abbrev b_row : ℕ → ℕ → Op → Row
 b_row c f o = record { mask = opcode 0x7f + funct3 7; bits = opcode c + funct3 f; form = B; op = o }
 
 abbrev csr_row : ℕ → ℕ → Op → Row
-csr_row c f o = record { mask = opcode 0x7f + funct3 7; bits = opcode c + funct3 f; form = Csr; op = o }
+csr_row c f o =
+    record { mask = opcode 0x7f + funct3 7; bits = opcode c + funct3 f; form = Csr; op = o }
 
 abbrev fence_row : ℕ → ℕ → Op → Row
-fence_row c f o = record { mask = opcode 0x7f + funct3 7; bits = opcode c + funct3 f; form = FenceForm; op = o }
+fence_row c f o =
+    record { mask = opcode 0x7f + funct3 7; bits = opcode c + funct3 f; form = FenceForm; op = o }
 
 abbrev r_row : ℕ → ℕ → ℕ → Op → Row
-r_row c f g o = record { mask = opcode 0x7f + funct3 7 + funct7 0x7f; bits = opcode c + funct3 f + funct7 g; form = R; op = o }
+r_row c f g o =
+    record {
+      mask = opcode 0x7f + funct3 7 + funct7 0x7f;
+      bits = opcode c + funct3 f + funct7 g;
+      form = R;
+      op = o;
+    }
 
 abbrev shift_row : ℕ → ℕ → ℕ → Op → Row
-shift_row c f g o = record { mask = opcode 0x7f + funct3 7 + funct6 0x3f; bits = opcode c + funct3 f + funct6 g; form = Shift; op = o }
+shift_row c f g o =
+    record {
+      mask = opcode 0x7f + funct3 7 + funct6 0x3f;
+      bits = opcode c + funct3 f + funct6 g;
+      form = Shift;
+      op = o;
+    }
 
 -- a shift of 32 bits, by a 5-bit amount
 abbrev word_shift_row : ℕ → ℕ → ℕ → Op → Row
-word_shift_row c f g o = record { mask = opcode 0x7f + funct3 7 + funct7 0x7f; bits = opcode c + funct3 f + funct7 g; form = Shift; op = o }
+word_shift_row c f g o =
+    record {
+      mask = opcode 0x7f + funct3 7 + funct7 0x7f;
+      bits = opcode c + funct3 f + funct7 g;
+      form = Shift;
+      op = o;
+    }
 
 -- a word with no operand
 abbrev whole_row : ℕ → Op → Row
@@ -116,14 +152,32 @@ whole_row word o = record { mask = 2 ^ 32 - 1; bits = word; form = Whole; op = o
 
 -- rd is 0
 abbrev sfence_row : ℕ → ℕ → ℕ → Op → Row
-sfence_row c f g o = record { mask = opcode 0x7f + rd_field 0x1f + funct3 7 + funct7 0x7f; bits = opcode c + funct3 f + funct7 g; form = Sfence; op = o }
+sfence_row c f g o =
+    record {
+      mask = opcode 0x7f + rd_field 0x1f + funct3 7 + funct7 0x7f;
+      bits = opcode c + funct3 f + funct7 g;
+      form = Sfence;
+      op = o;
+    }
 
 -- rs2 is 0
 abbrev lr_row : ℕ → ℕ → ℕ → Op → Row
-lr_row c f g o = record { mask = opcode 0x7f + funct3 7 + rs2_field 0x1f + funct5 0x1f; bits = opcode c + funct3 f + funct5 g; form = Lr; op = o }
+lr_row c f g o =
+    record {
+      mask = opcode 0x7f + funct3 7 + rs2_field 0x1f + funct5 0x1f;
+      bits = opcode c + funct3 f + funct5 g;
+      form = Lr;
+      op = o;
+    }
 
 abbrev amo_row : ℕ → ℕ → ℕ → Op → Row
-amo_row c f g o = record { mask = opcode 0x7f + funct3 7 + funct5 0x1f; bits = opcode c + funct3 f + funct5 g; form = Amo; op = o }
+amo_row c f g o =
+    record {
+      mask = opcode 0x7f + funct3 7 + funct5 0x1f;
+      bits = opcode c + funct3 f + funct5 g;
+      form = Amo;
+      op = o;
+    }
 
 -- ---- the table
 

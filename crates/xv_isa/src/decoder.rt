@@ -1,6 +1,7 @@
 //! The decoder: the row by nested arms, then the operands by the row's form.
 
-ghost use Rattle.std.specs.Prelude.{◌≡◌, ℕ, ◌<◌, ◌+◌, ◌*◌, ◌/◌, ◌%◌, ◌^◌, Option, Some, None, MatchOption, IfSome, IfNone, IsSomeAnd, slice_get};
+ghost use Rattle.std.specs.Prelude.{◌≡◌, ℕ, ◌<◌, ◌+◌, ◌*◌, ◌/◌, ◌%◌, ◌^◌, Option, Some, None};
+ghost use Rattle.std.specs.Prelude.{MatchOption, IfSome, IfNone, IsSomeAnd, slice_get};
 ghost use Rattle.xv_isa.specs.Rows.{rows, Matches, IsRowAt, row_of};
 ghost use Rattle.xv_isa.specs.Operands.{decode_of, operands_of};
 ghost use Rattle.xv_isa.specs.Encoding.{InRange};
@@ -46,8 +47,8 @@ fn find(word: u32) -> Option<Found>
     instruction_rows!(arms_of!(word))
 }
 
-/// The instruction of a word, or None where the word is illegal: no row matches it. It takes constant
-/// time: a test of the opcode and at most three more choose the row.
+/// The instruction of a word, or None where the word is illegal: no row matches it. It takes
+/// constant time: a test of the opcode and at most three more choose the row.
 #[tactic(auto, using(crate::proofs::OneRow::decode_none, crate::proofs::OneRow::decode_some))]
 pub fn decode(word: u32) -> Option<Insn>
     ensures value { result ≡ decode_of word }

@@ -1,7 +1,8 @@
 //! The encoder: the row's fixed bits, and each operand at its place (Unprivileged ISA 20191213,
 //! figures 2.2 to 2.4).
 
-ghost use Rattle.std.specs.Prelude.{◌≡◌, ℕ, ◌<◌, ◌≤◌, ◌+◌, ◌*◌, ◌/◌, ◌%◌, ◌^◌, ◌-◌, ℤ, pos, neg_ℤ, ◌≤ℤ◌, ◌<ℤ◌, Some, slice_get};
+ghost use Rattle.std.specs.Prelude.{◌≡◌, ℕ, ◌<◌, ◌≤◌, ◌+◌, ◌*◌, ◌/◌, ◌%◌, ◌^◌, ◌-◌, ℤ, pos, neg_ℤ};
+ghost use Rattle.std.specs.Prelude.{◌≤ℤ◌, ◌<ℤ◌, Some, slice_get};
 ghost use Rattle.xv_isa.specs.Rows.{rows};
 ghost use Rattle.xv_isa.specs.Operands.{decode_of, inst};
 ghost use Rattle.xv_isa.specs.Encoding.{

@@ -1,4 +1,5 @@
-//! The fields of an instruction word, read and placed (Unprivileged ISA 20191213, figures 2.2 to 2.4).
+//! The fields of an instruction word, read and placed (Unprivileged ISA 20191213, figures 2.2 to
+//! 2.4).
 
 ghost use Rattle.std.specs.Prelude.{◌≡◌, ℕ, ◌<◌, ◌≤◌, ◌+◌, ◌*◌, ◌/◌, ◌%◌, ◌^◌, ℤ, pos};
 ghost use Rattle.xv_isa.specs.Operands.{

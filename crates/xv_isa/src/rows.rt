@@ -159,7 +159,8 @@ pub struct Table<const N: usize> {
 /// The number of rows.
 pub const ROW_COUNT: usize = 97;
 
-// The rows by major opcode and mask: place, bits, form, operation. `$reader` is a macro that takes the list.
+// The rows by major opcode and mask: place, bits, form, operation. `$reader` is a macro that takes
+// the list.
 macro_rules! instruction_rows {
     ($reader:ident!($($start:tt)*)) => {
         $reader! {

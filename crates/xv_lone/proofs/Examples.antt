@@ -1,5 +1,7 @@
--- Worked rows of the lone machine, computed by the checker: journals of a guest with 64 bytes of memory.
-use Rattle.std.proofs.Common.{Bool, true, false, ◌≡◌, ℕ, zero, suc, ◌+◌, ◌-◌, ◌/◌, ◌%◌, ◌^◌, ◌++◌, List, [], ◌∷◌, map, Option, Some, None, slice_get, slice_index, refl}
+-- Worked rows of the lone machine, computed by the checker: journals of a guest with 64 bytes of
+-- memory.
+use Rattle.std.proofs.Common.{Bool, true, false, ◌≡◌, ℕ, zero, suc, ◌+◌, ◌-◌, ◌/◌, ◌%◌, ◌^◌, ◌++◌}
+use Rattle.std.proofs.Common.{List, [], ◌∷◌, map, Option, Some, None, slice_get, slice_index, refl}
 use Rattle.xv_mem.specs.Bytes.{word_at, put, put_word}
 use Rattle.xv_isa.specs.Effects.{effect_of}
 use Rattle.xv_isa.specs.Operands.{decode_of}
@@ -36,7 +38,8 @@ memory_of (word ∷ words) = bytes_of 4 word ++ memory_of words
 
 -- born at clock 50, with these words, and kicked; then turns at these clocks
 journal : List ℕ → List ℕ → List Entry
-journal words clocks = Born 50 ∷ Changed (Load flat_base (memory_of words)) ∷ Changed Kick ∷ map (λ clock. Changed (Turn 0 clock)) clocks
+journal words clocks = Born 50 ∷ Changed (Load flat_base (memory_of words)) ∷ Changed Kick
+    ∷ map (λ clock. Changed (Turn 0 clock)) clocks
 
 hart_number : HartState → ℕ
 hart_number Started = 0
@@ -75,8 +78,8 @@ end_number Stops = 2
 end_number Halted = 3
 end_number Rebooted = 4
 
--- whether VCPU 0 is ready, how its turn ends, and where each of its lone steps began; and whether it is ready
--- after that
+-- whether VCPU 0 is ready, how its turn ends, and where each of its lone steps began; and whether
+-- it is ready after that
 turn_shows : Option Machine → List ℕ
 turn_shows None = []
 turn_shows (Some m) =
@@ -86,18 +89,21 @@ turn_shows (Some m) =
 -- how a turn ends, the number of its lone steps, and what is seen of the VCPU after it
 end_shows : List ℕ → Option Machine → List ℕ
 end_shows ks None = []
-end_shows ks (Some m) = end_number (ending plan 0 0 m) ∷ steps plan 0 0 m ∷ vcpu_shows ks (slice_get (turn plan 0 0 m).vcpus 0)
+end_shows ks (Some m) = end_number (ending plan 0 0 m) ∷ steps plan 0 0 m
+    ∷ vcpu_shows ks (slice_get (turn plan 0 0 m).vcpus 0)
 
 -- two VCPUs, of which the second starts at offset 16
 pair : Plan
 pair = record plan { starts = flat_base ∷ (flat_base + 16) ∷ [] }
 
--- VCPU h of the pair: whether it is ready, how its turn ends and after how many steps; and where both are then
+-- VCPU h of the pair: whether it is ready, how its turn ends and after how many steps; and where
+-- both are then
 pair_shows : ℕ → Option Machine → List ℕ
 pair_shows h None = []
 pair_shows h (Some m) =
     bit (is_ready h 0 m) ∷ end_number (ending pair h 0 m) ∷ steps pair h 0 m
-    ∷ vcpu_shows (7 ∷ []) (slice_get (turn pair h 0 m).vcpus 0) ++ vcpu_shows (7 ∷ []) (slice_get (turn pair h 0 m).vcpus 1)
+    ∷ vcpu_shows (7 ∷ []) (slice_get (turn pair h 0 m).vcpus 0)
+    ++ vcpu_shows (7 ∷ []) (slice_get (turn pair h 0 m).vcpus 1)
 
 -- x5 is the address of offset 32
 at_x5 : List ℕ → List ℕ
@@ -112,32 +118,71 @@ table =
     -- WFI with nothing enabled: the VCPU waits behind it
     (shows (0x10500073 ∷ []) (50 ∷ []) [], 1 ∷ 4 ∷ [])
     -- with a software interrupt pending and enabled, and SIE 0, it goes on
-    ∷ (shows (0x14415073 ∷ 0x10415073 ∷ 0x10500073 ∷ 0x00100393 ∷ 0x10405073 ∷ 0x10500073 ∷ []) (50 ∷ []) (7 ∷ []), 1 ∷ 24 ∷ 1 ∷ [])
+    ∷ (
+      shows (0x14415073 ∷ 0x10415073 ∷ 0x10500073 ∷ 0x00100393 ∷ 0x10405073 ∷ 0x10500073 ∷ [])
+          (50 ∷ []) (7 ∷ []),
+      1 ∷ 24 ∷ 1 ∷ [],
+    )
     -- with the timer's interrupt alone enabled it waits, as the compare is 2^64 - 1
     ∷ (shows (0x02000313 ∷ 0x10431073 ∷ 0x10500073 ∷ []) (50 ∷ []) [], 1 ∷ 12 ∷ [])
     -- a store, and a load of what it stored
-    ∷ (shows (at_x5 (0x00700313 ∷ 0x0062b023 ∷ 0x0002b383 ∷ 0x10500073 ∷ [])) (50 ∷ []) (7 ∷ []), 1 ∷ 24 ∷ 7 ∷ [])
+    ∷ (
+      shows (at_x5 (0x00700313 ∷ 0x0062b023 ∷ 0x0002b383 ∷ 0x10500073 ∷ [])) (50 ∷ []) (7 ∷ []),
+      1 ∷ 24 ∷ 7 ∷ [],
+    )
     -- LR.D and SC.D in one turn, and in two
-    ∷ (shows (at_x5 (0x1002b3af ∷ 0x1802b32f ∷ 0x10500073 ∷ [])) (50 ∷ []) (6 ∷ []), 1 ∷ 20 ∷ 0 ∷ [])
-    ∷ (shows (at_x5 (0x1002b3af ∷ 0x10500073 ∷ 0x1802b32f ∷ 0x10500073 ∷ [])) (50 ∷ 150 ∷ []) (6 ∷ []), 1 ∷ 24 ∷ 1 ∷ [])
+    ∷ (
+      shows (at_x5 (0x1002b3af ∷ 0x1802b32f ∷ 0x10500073 ∷ [])) (50 ∷ []) (6 ∷ []),
+      1 ∷ 20 ∷ 0 ∷ [],
+    )
+    ∷ (
+      shows (at_x5 (0x1002b3af ∷ 0x10500073 ∷ 0x1802b32f ∷ 0x10500073 ∷ [])) (50 ∷ 150 ∷ [])
+          (6 ∷ []),
+      1 ∷ 24 ∷ 1 ∷ [],
+    )
     -- ECALL in S: -2 and 0
-    ∷ (shows (0x00500593 ∷ 0x00000073 ∷ 0x10500073 ∷ []) (50 ∷ []) (10 ∷ 11 ∷ []), 1 ∷ 12 ∷ (2 ^ 64 - 2) ∷ 0 ∷ [])
+    ∷ (
+      shows (0x00500593 ∷ 0x00000073 ∷ 0x10500073 ∷ []) (50 ∷ []) (10 ∷ 11 ∷ []),
+      1 ∷ 12 ∷ (2 ^ 64 - 2) ∷ 0 ∷ [],
+    )
     -- time is the clock less the birth
     ∷ (shows (0xc01023f3 ∷ 0x10500073 ∷ []) (80 ∷ []) (7 ∷ []), 1 ∷ 8 ∷ 30 ∷ [])
     -- before its birth's clock guest time is past 2^64, and below it again
     ∷ (shows (0xc01023f3 ∷ 0x10500073 ∷ []) (20 ∷ []) (7 ∷ []), 1 ∷ 8 ∷ (2 ^ 64 - 30) ∷ [])
-    -- at 2^64 - 1 it reaches the timer's compare of a reset: WFI goes on where the timer's interrupt is enabled,
-    -- and an interrupt is taken where SIE is set too
-    ∷ (shows (0x02000313 ∷ 0x10431073 ∷ 0x10500073 ∷ 0x00100393 ∷ 0x10401073 ∷ 0x10500073 ∷ []) (49 ∷ []) (7 ∷ []), 1 ∷ 24 ∷ 1 ∷ [])
-    ∷ (of_machine vcpu_trap (replay plan (journal (0x00000297 ∷ 0x01c28293 ∷ 0x10529073 ∷ 0x02000313 ∷ 0x10431073 ∷ 0x10015073 ∷ 0x00000013 ∷ 0x0000006f ∷ []) (49 ∷ []))), (2 ^ 63 + 5) ∷ (flat_base + 24) ∷ 0 ∷ [])
+    -- at 2^64 - 1 it reaches the timer's compare of a reset: WFI goes on where the timer's
+    -- interrupt is enabled, and an interrupt is taken where SIE is set too
+    ∷ (
+      shows (0x02000313 ∷ 0x10431073 ∷ 0x10500073 ∷ 0x00100393 ∷ 0x10401073 ∷ 0x10500073 ∷ [])
+          (49 ∷ []) (7 ∷ []),
+      1 ∷ 24 ∷ 1 ∷ [],
+    )
+    ∷ (
+      of_machine vcpu_trap
+          (replay plan
+          (journal (0x00000297 ∷ 0x01c28293 ∷ 0x10529073 ∷ 0x02000313 ∷ 0x10431073 ∷ 0x10015073
+          ∷ 0x00000013 ∷ 0x0000006f ∷ []) (49 ∷ []))),
+      (2 ^ 63 + 5) ∷ (flat_base + 24) ∷ 0 ∷ [],
+    )
     -- a turn that is spent: a loop of two instructions
-    ∷ (end_shows (7 ∷ []) (replay plan (journal (0x00138393 ∷ 0xffdff06f ∷ []) [])), 0 ∷ 1000 ∷ 0 ∷ 0 ∷ 500 ∷ [])
-    -- of two VCPUs a kick starts the first alone, and its turn leaves the second; a turn of the second, which is
-    -- stopped, has no step
-    ∷ (pair_shows 0 (replay pair (journal (0x00100393 ∷ 0x10500073 ∷ []) [])), 1 ∷ 1 ∷ 2 ∷ 1 ∷ 8 ∷ 1 ∷ 3 ∷ 16 ∷ 0 ∷ [])
-    ∷ (pair_shows 1 (replay pair (journal (0x00100393 ∷ 0x10500073 ∷ []) [])), 0 ∷ 2 ∷ 0 ∷ 0 ∷ 0 ∷ 0 ∷ 3 ∷ 16 ∷ 0 ∷ [])
+    ∷ (
+      end_shows (7 ∷ []) (replay plan (journal (0x00138393 ∷ 0xffdff06f ∷ []) [])),
+      0 ∷ 1000 ∷ 0 ∷ 0 ∷ 500 ∷ [],
+    )
+    -- of two VCPUs a kick starts the first alone, and its turn leaves the second; a turn of the
+    -- second, which is stopped, has no step
+    ∷ (
+      pair_shows 0 (replay pair (journal (0x00100393 ∷ 0x10500073 ∷ []) [])),
+      1 ∷ 1 ∷ 2 ∷ 1 ∷ 8 ∷ 1 ∷ 3 ∷ 16 ∷ 0 ∷ [],
+    )
+    ∷ (
+      pair_shows 1 (replay pair (journal (0x00100393 ∷ 0x10500073 ∷ []) [])),
+      0 ∷ 2 ∷ 0 ∷ 0 ∷ 0 ∷ 0 ∷ 3 ∷ 16 ∷ 0 ∷ [],
+    )
     -- a turn of two steps, the second of which waits; and a guest that wasn't kicked
-    ∷ (turn_shows (replay plan (journal (0x00100393 ∷ 0x10500073 ∷ []) [])), 1 ∷ 1 ∷ 2 ∷ 0 ∷ 4 ∷ 0 ∷ [])
+    ∷ (
+      turn_shows (replay plan (journal (0x00100393 ∷ 0x10500073 ∷ []) [])),
+      1 ∷ 1 ∷ 2 ∷ 0 ∷ 4 ∷ 0 ∷ [],
+    )
     ∷ (turn_shows (replay plan (Born 0 ∷ [])), 0 ∷ 2 ∷ 0 ∷ 0 ∷ [])
     -- a load, a store and a fetch at 0, where no memory is: causes 5, 7 and 1
     ∷ (traps (handled 0x00003383), 5 ∷ (flat_base + 12) ∷ 0 ∷ [])
@@ -146,5 +191,10 @@ table =
     ∷ []
 
 the_rows : map (λ r. r.0) table ≡ map (λ r. r.1) table
-unfolding plan bytes_of memory_of journal hart_number vcpu_shows vcpu_trap of_machine shows traps bit end_number turn_shows end_shows pair pair_shows at_x5 handled table replay ending visited answered steps turn whole_turn iterate lone_step step word_at put put_word decode_of row_of rows form_of operation_at effect_of chosen_interrupt pending sip_of csr_read csr_written register_of trap_csrs handler return_csrs returns_to_user kept_stvec kept_sie kept_sstatus reset_csrs verdict
+unfolding plan bytes_of memory_of journal hart_number vcpu_shows vcpu_trap of_machine shows traps
+    bit end_number turn_shows end_shows pair pair_shows at_x5 handled table replay ending visited
+    answered steps turn whole_turn iterate lone_step step word_at put put_word decode_of row_of rows
+    form_of operation_at effect_of chosen_interrupt pending sip_of csr_read csr_written register_of
+    trap_csrs handler return_csrs returns_to_user kept_stvec kept_sie kept_sstatus
+    reset_csrs verdict
 the_rows = refl

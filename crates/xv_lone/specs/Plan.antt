@@ -1,5 +1,6 @@
 -- What a guest's description gives: its memory and where its VCPUs start.
-use Rattle.std.specs.Prelude.{ℕ, zero, suc, ◌+◌, ◌*◌, ◌/◌, ◌^◌, Bool, ◌&&◌, nat_lt, if◌then◌else◌, List, [], ◌∷◌, sum_by}
+use Rattle.std.specs.Prelude.{ℕ, zero, suc, ◌+◌, ◌*◌, ◌/◌, ◌^◌, Bool, ◌&&◌, nat_lt, if◌then◌else◌}
+use Rattle.std.specs.Prelude.{List, [], ◌∷◌, sum_by}
 use Rattle.std.specs.List.{list_any}
 
 -- size bytes of memory from guest physical address base on
@@ -36,8 +37,8 @@ count_below test (suc n) = if test n then count_below test n + 1 else count_belo
 unfoldable pub blocks_touched : List Region → ℕ → ℕ → ℕ
 blocks_touched regions size n = count_below (λ k. list_any (touches size k) regions) n
 
--- The frames of 4 KiB that a guest takes: one for each page of its memory, and one for each table of
--- its G stage below the root (Privileged Architecture, 8.5.1: Sv39x4): a table for each block of
+-- The frames of 4 KiB that a guest takes: one for each page of its memory, and one for each table
+-- of its G stage below the root (Privileged Architecture, 8.5.1: Sv39x4): a table for each block of
 -- 1 GiB and for each block of 2 MiB in which it has an address. Addresses have 41 bits.
 unfoldable pub need : Plan → ℕ
 need plan =

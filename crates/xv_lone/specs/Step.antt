@@ -1,14 +1,16 @@
--- One lone step of a VCPU: the step of a hart over the cells of its guest's memory, and at once what becomes of
--- its exceptions and the answer to what memory alone can't give (Privileged Architecture 20211203, sections
--- 4.1 and 3.3; SBI 1.0, chapter 3). An answer is about the machine: it may change other VCPUs than the one
--- that asked, halt the guest or reboot it.
-use Rattle.std.specs.Prelude.{ℕ, ◌-◌, ◌^◌, ◌==◌, Bool, true, false, ◌&&◌, nat_le, if◌then◌else◌, Option, None, option_map, slice_get}
+-- One lone step of a VCPU: the step of a hart over the cells of its guest's memory, and at once
+-- what becomes of its exceptions and the answer to what memory alone can't give (Privileged
+-- Architecture 20211203, sections 4.1 and 3.3; SBI 1.0, chapter 3). An answer is about the machine:
+-- it may change other VCPUs than the one that asked, halt the guest or reboot it.
+use Rattle.std.specs.Prelude.{ℕ, ◌-◌, ◌^◌, ◌==◌, Bool, true, false, ◌&&◌, nat_le, if◌then◌else◌}
+use Rattle.std.specs.Prelude.{Option, None, option_map, slice_get}
 use Rattle.xv_csr.specs.declared.Lines.{Lines}
 use Rattle.xv_csr.specs.Pending.{pending}
 use Rattle.xv_pte.specs.declared.access.Kind3.{Kind3}
 use Rattle.xv_step.specs.Bus.{Bus}
 use Rattle.xv_step.specs.State.{Held, State, with_register, at_pc, trapped}
-use Rattle.xv_step.specs.Outcome.{Ask, TableEntry, Target, Plain, Call, Wait, Outcome, Went, Raised, Left, access_kind, address_of, access_fault}
+use Rattle.xv_step.specs.Outcome.{Ask, TableEntry, Target, Plain, Call, Wait, Outcome, Went, Raised}
+use Rattle.xv_step.specs.Outcome.{Left, access_kind, address_of, access_fault}
 use Rattle.xv_step.specs.Perform.{Inputs}
 use Rattle.xv_step.specs.Step.{step}
 use Rattle.xv_lone.specs.declared.vcpu.Ending.{Ending}
@@ -65,7 +67,15 @@ pub record After : Type 0 where
 
 -- the VCPU, as a hart over the machine's memory
 abbrev pub hart_of : OnHart → VcpuView → State Memory Cell
-hart_of r v = record { x = v.x; pc = v.pc; user = v.user; csrs = v.csrs; held = r.held; memory = r.machine.memory }
+hart_of r v =
+    record {
+      x = v.x;
+      pc = v.pc;
+      user = v.user;
+      csrs = v.csrs;
+      held = r.held;
+      memory = r.machine.memory;
+    }
 
 -- and the VCPU that such a hart is, in a hart state
 abbrev pub vcpu_of : State Memory Cell → HartState → VcpuView → VcpuView
@@ -96,7 +106,8 @@ module _ (h : ℕ) (r : OnHart) (v : VcpuView) where
 
 -- the guest reboots
 abbrev pub reboots : Plan → Machine → After
-reboots plan m = record { on_hart = record { machine = rebooted plan m; held = None }; onward = Reboots }
+reboots plan m =
+    record { on_hart = record { machine = rebooted plan m; held = None }; onward = Reboots }
 
 -- ---- the answers
 
@@ -124,10 +135,11 @@ abbrev pub a1 : ℕ
 a1 = 11
 
 abbrev pub with_reply : (next error value : ℕ) → VcpuView → VcpuView
-with_reply next error value v = record v { x = with_register a1 value (with_register a0 error v.x); pc = next }
+with_reply next error value v =
+    record v { x = with_register a1 value (with_register a0 error v.x); pc = next }
 
--- WFI (Privileged Architecture, 3.3.3): it goes on where an interrupt is pending and enabled, whether or not
--- one may be taken
+-- WFI (Privileged Architecture, 3.3.3): it goes on where an interrupt is pending and enabled,
+-- whether or not one may be taken
 abbrev pub after_wait : (interrupts : ℕ) → HartState
 after_wait interrupts = if interrupts == 0 then Waiting else Started
 
@@ -138,7 +150,10 @@ module _ (plan : Plan) (h t : ℕ) (r : OnHart) (v : VcpuView) where
 
   abbrev pub by_reply : (next : ℕ) → Reply → After
   by_reply next (Returns error value m) =
-      record { on_hart = record r { machine = on_vcpu h (with_reply next error value) m }; onward = On }
+      record {
+        on_hart = record r { machine = on_vcpu h (with_reply next error value) m };
+        onward = On;
+      }
   by_reply next StopsCaller = goes_on h r v (at_pc next (hart_of r v)) Stopped
   by_reply next (HaltsGuest ending) = halts h r v ending (at_pc next (hart_of r v))
   by_reply next RebootsGuest = reboots plan r.machine
@@ -147,7 +162,9 @@ module _ (plan : Plan) (h t : ℕ) (r : OnHart) (v : VcpuView) where
   calls next = by_reply next (replied r.machine)
 
   abbrev pub waits : (next : ℕ) → After
-  waits next = goes_on h r v (at_pc next (hart_of r v)) (after_wait (pending v.csrs (lines_at h t r.machine v)))
+  waits next =
+      goes_on h r v (at_pc next (hart_of r v))
+      (after_wait (pending v.csrs (lines_at h t r.machine v)))
 
   -- no device is there yet, so a load or a store that memory doesn't serve faults
   unfoldable pub answered : Ask → After

@@ -1,5 +1,6 @@
 -- A turn: the lone steps of one VCPU, one after another.
-use Rattle.std.specs.Prelude.{ℕ, zero, suc, Bool, true, false, if◌then◌else◌, List, [], ◌∷◌, ◌++◌, length, Option, Some, None, option_map, slice_get}
+use Rattle.std.specs.Prelude.{ℕ, zero, suc, Bool, true, false, if◌then◌else◌, List, [], ◌∷◌, ◌++◌}
+use Rattle.std.specs.Prelude.{length, Option, Some, None, option_map, slice_get}
 use Rattle.xv_csr.specs.declared.SCsrs.{SCsrs}
 use Rattle.xv_lone.specs.declared.vcpu.VcpuView.{VcpuView}
 use Rattle.xv_lone.specs.declared.vcpu.HartState.{HartState}
@@ -34,7 +35,8 @@ pub record Core : Type 0 where
 abbrev pub core_of : VcpuView → Core
 core_of v = record { x = v.x; pc = v.pc; user = v.user; csrs = v.csrs }
 
--- a machine within a turn of one of its VCPUs, how the turn goes on, and what each lone step so far began with
+-- a machine within a turn of one of its VCPUs, how the turn goes on, and what each lone step so far
+-- began with
 pub record InTurn : Type 0 where
   pub on_hart : OnHart
   pub onward : Onward
@@ -53,13 +55,15 @@ runs_on Halts hart = false
 runs_on Reboots hart = false
 
 abbrev pub with_step : InTurn → VcpuView → After → InTurn
-with_step r v a = record { on_hart = a.on_hart; onward = a.onward; begun = r.begun ++ core_of v ∷ [] }
+with_step r v a =
+    record { on_hart = a.on_hart; onward = a.onward; begun = r.begun ++ core_of v ∷ [] }
 
 -- one more lone step of VCPU h, from what it is now; none where the turn doesn't go on
 abbrev pub one_more_of : Plan → (h t : ℕ) → InTurn → Option VcpuView → Option InTurn
 one_more_of plan h t r None = None
 one_more_of plan h t r (Some v) =
-    if runs_on r.onward v.hart then option_map (with_step r v) (lone_step plan h t r.on_hart) else None
+    if runs_on r.onward v.hart
+    then option_map (with_step r v) (lone_step plan h t r.on_hart) else None
 
 abbrev pub one_more : Plan → (h t : ℕ) → InTurn → Option InTurn
 one_more plan h t r = one_more_of plan h t r (slice_get r.on_hart.machine.vcpus h)
@@ -76,7 +80,11 @@ woken_vcpu v = record v { hart = woken v.hart }
 
 -- a turn begins without a reservation
 abbrev pub begin : (h : ℕ) → Machine → InTurn
-begin h m = record { on_hart = record { machine = on_vcpu h woken_vcpu m; held = None }; onward = On; begun = [] }
+begin h m = record {
+  on_hart = record { machine = on_vcpu h woken_vcpu m; held = None };
+  onward = On;
+  begun = [];
+}
 
 -- a turn of VCPU h at guest time t, to its end
 unfoldable pub whole_turn : Plan → (h t : ℕ) → Machine → InTurn
@@ -94,8 +102,8 @@ visited plan h t m = (whole_turn plan h t m).begun
 unfoldable pub steps : Plan → (h t : ℕ) → Machine → ℕ
 steps plan h t m = length (visited plan h t m)
 
--- how a turn ends that goes on no more in this way: its VCPU waits, is stopped, or has made all its steps; or
--- its guest halted or rebooted
+-- how a turn ends that goes on no more in this way: its VCPU waits, is stopped, or has made all its
+-- steps; or its guest halted or rebooted
 abbrev pub ends_as : Onward → HartState → TurnEnd
 ends_as On Started = Spent
 ends_as On Waiting = Waits

@@ -4,8 +4,8 @@ use Rattle.xv_csr.specs.Reset.{reset_csrs}
 use Rattle.xv_lone.specs.declared.vcpu.VcpuView.{VcpuView}
 use Rattle.xv_lone.specs.declared.vcpu.HartState.TheVariants.{Started, Stopped}
 
--- Reset values: every register 0, mode S, supervisor CSRs 0 but for the read-only UXL, no timer set,
--- and the hart stopped.
+-- Reset values: every register 0, mode S, supervisor CSRs 0 but for the read-only UXL, no timer
+-- set, and the hart stopped.
 abbrev pub reset_vcpu : ℕ → VcpuView
 reset_vcpu start = record {
   x = replicate 32 0;

@@ -1,5 +1,6 @@
 -- Host memory as a list of bytes: its words, its ranges, and what a write leaves.
-use Rattle.std.specs.Prelude.{ℕ, ◌+◌, List, [], ◌++◌, length, take, drop, replicate, Vec, Option, Some, None}
+use Rattle.std.specs.Prelude.{ℕ, ◌+◌, List, [], ◌++◌, length, take, drop, replicate, Vec, Option}
+use Rattle.std.specs.Prelude.{Some, None}
 use Rattle.byteorder.specs.Endian.{little_number, little_bytes}
 
 -- the little-endian number in the n bytes from address at on

@@ -1,5 +1,6 @@
 //! Host memory: whole frames of 4,096 bytes, read and written by aligned little-endian words.
-ghost use Rattle.std.specs.Prelude.{◌≡◌, ℕ, ◌+◌, ◌*◌, ◌%◌, ◌<◌, ◌≤◌, List, [], length, drop, replicate, slice_index, IfOk};
+ghost use Rattle.std.specs.Prelude.{◌≡◌, ℕ, ◌+◌, ◌*◌, ◌%◌, ◌<◌, ◌≤◌, List, [], length, drop};
+ghost use Rattle.std.specs.Prelude.{replicate, slice_index, IfOk};
 ghost use Rattle.xv_mem.specs.Bytes.{held, word_at, put, put_word, cleared, range};
 
 use crate::counter::Steps;

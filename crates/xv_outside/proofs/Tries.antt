@@ -1,5 +1,6 @@
 -- Tries of a reader and of a writer, whose bytes may be known.
-use Rattle.std.proofs.Common.{◌≡◌, ℕ, ◌+◌, ◌-◌, List, [], ◌++◌, length, take, drop, Option, None, Some, refl, ◌∙◌, sym, ap, subst}
+use Rattle.std.proofs.Common.{◌≡◌, ℕ, ◌+◌, ◌-◌, List, [], ◌++◌, length, take, drop, Option, None}
+use Rattle.std.proofs.Common.{Some, refl, ◌∙◌, sym, ap, subst}
 use Rattle.std.proofs.lemmas.List.{append_assoc, append-nil, take-append-drop, take_rest}
 use Rattle.std.proofs.Math.Seq.{take-add}
 use Rattle.std.specs.Io.KnownBytes.{Keeps, Consumes, Appends}
@@ -17,21 +18,24 @@ keeps_more (Some xs) (Some ys) None p q = absurd q
 keeps_more (Some xs) (Some ys) (Some zs) p q = q ∙ p
 
 -- bytes that stayed and were then consumed
-pub keeps_consumes : (a b c : Option (List ℕ)) (bytes : List ℕ) → Keeps a b → Consumes b c bytes → Consumes a c bytes
+pub keeps_consumes : (a b c : Option (List ℕ)) (bytes : List ℕ) → Keeps a b → Consumes b c bytes
+    → Consumes a c bytes
 keeps_consumes None b c bytes p q = tt
 keeps_consumes (Some xs) None c bytes p q = absurd p
 keeps_consumes (Some xs) (Some ys) None bytes p q = absurd q
 keeps_consumes (Some xs) (Some ys) (Some zs) bytes p q = sym p ∙ q
 
 -- bytes that stayed and then grew
-pub keeps_appends : (a b c : Option (List ℕ)) (bytes : List ℕ) → Keeps a b → Appends b c bytes → Appends a c bytes
+pub keeps_appends : (a b c : Option (List ℕ)) (bytes : List ℕ) → Keeps a b → Appends b c bytes
+    → Appends a c bytes
 keeps_appends None b c bytes p q = tt
 keeps_appends (Some xs) None c bytes p q = absurd p
 keeps_appends (Some xs) (Some ys) None bytes p q = absurd q
 keeps_appends (Some xs) (Some ys) (Some zs) bytes p q = q ∙ ap (λ (list : List ℕ). list ++ bytes) p
 
 -- bytes that grew and then stayed
-pub appends_keeps : (a b c : Option (List ℕ)) (bytes : List ℕ) → Appends a b bytes → Keeps b c → Appends a c bytes
+pub appends_keeps : (a b c : Option (List ℕ)) (bytes : List ℕ) → Appends a b bytes → Keeps b c
+    → Appends a c bytes
 appends_keeps None b c bytes p q = tt
 appends_keeps (Some xs) None c bytes p q = absurd p
 appends_keeps (Some xs) (Some ys) None bytes p q = absurd q
@@ -42,7 +46,8 @@ pub appends_nothing : (a : Option (List ℕ)) → Appends a a []
 appends_nothing None = tt
 appends_nothing (Some xs) = sym (append-nil xs)
 
-appends_both : (a b c : Option (List ℕ)) (first second : List ℕ) → Appends a b first → Appends b c second → Appends a c (first ++ second)
+appends_both : (a b c : Option (List ℕ)) (first second : List ℕ) → Appends a b first
+    → Appends b c second → Appends a c (first ++ second)
 appends_both None b c first second p q = tt
 appends_both (Some xs) None c first second p q = absurd p
 appends_both (Some xs) (Some ys) None first second p q = absurd q
@@ -50,15 +55,21 @@ appends_both (Some xs) (Some ys) (Some zs) first second p q =
     q ∙ ap (λ (list : List ℕ). list ++ second) p ∙ append_assoc xs first second
 
 -- a piece up to a place, and a front of what is left of it
-pub appends_more : (a b c : Option (List ℕ)) (piece : List ℕ) (at n : ℕ) → Appends a b (take at piece) → Appends b c (take n (take (length piece - at) (drop at piece))) → Appends a c (take (at + n) piece)
+pub appends_more : (a b c : Option (List ℕ)) (piece : List ℕ) (at n : ℕ)
+    → Appends a b (take at piece) → Appends b c (take n (take (length piece - at) (drop at piece)))
+    → Appends a c (take (at + n) piece)
 appends_more a b c piece at n p q =
-    let left : take n (take (length piece - at) (drop at piece)) ≡ take n (drop at piece) = ap (λ (list : List ℕ). take n list) (take_rest piece at) in
-    let grown : Appends b c (take n (drop at piece)) = let P : List ℕ → Type 0 = λ list. Appends b c list in subst P left q in
+    let left : take n (take (length piece - at) (drop at piece)) ≡ take n (drop at piece) =
+    ap (λ (list : List ℕ). take n list) (take_rest piece at) in
+    let grown : Appends b c (take n (drop at piece)) = let P : List ℕ → Type 0 =
+    λ list. Appends b c list in subst P left q in
     let P : List ℕ → Type 0 = λ list. Appends a c list in
-    subst P (sym (take-add at n piece)) (appends_both a b c (take at piece) (take n (drop at piece)) p grown)
+    subst P (sym (take-add at n piece))
+    (appends_both a b c (take at piece) (take n (drop at piece)) p grown)
 
 -- a piece up to a place is a front of it
-pub appends_front : (a b : Option (List ℕ)) (piece : List ℕ) (at : ℕ) → Appends a b (take at piece) → AppendsFront a b piece
+pub appends_front : (a b : Option (List ℕ)) (piece : List ℕ) (at : ℕ) → Appends a b (take at piece)
+    → AppendsFront a b piece
 appends_front a b piece at p = record {
   front = take at piece;
   rest = drop at piece;

@@ -2,7 +2,8 @@
 use Rattle.std.specs.Prelude.{ℕ, ◌+◌, ◌-◌, ◌^◌, ◌==◌, Bool, if◌then◌else◌, min, List}
 use Rattle.std.specs.List.{list_any}
 
--- the numbers, from 0, of the calls that fail, how many calls were made, and how many of them failed
+-- the numbers, from 0, of the calls that fail, how many calls were made, and how many of them
+-- failed
 pub record CallCount : Type 0 where
   pub failing : List ℕ
   pub made : ℕ
@@ -34,4 +35,8 @@ fails_next calls = list_any (λ number. number == calls.made) calls.failing
 -- one more call, which failed or didn't
 abbrev pub calls_after : CallCount → Bool → CallCount
 calls_after calls failed =
-    record calls { made = next_count calls.made; faults = if failed then next_count calls.faults else calls.faults }
+    record calls {
+      made = next_count calls.made;
+      faults = if failed then next_count calls.faults
+          else calls.faults;
+    }

@@ -2,7 +2,8 @@
 use Rattle.std.specs.Prelude.{◌≡◌, ℕ, List, ◌++◌, Option}
 use Rattle.std.specs.Io.KnownBytes.{Appends}
 
--- the bytes that the reader has left or the writer holds, where it says so, and how many calls failed
+-- the bytes that the reader has left or the writer holds, where it says so, and how many calls
+-- failed
 pub record StreamState : Type 0 where
   pub known : Option (List ℕ)
   pub faults : ℕ

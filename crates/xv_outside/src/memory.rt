@@ -1,9 +1,12 @@
 //! The forms in memory of source, sink and files.
-ghost use Rattle.std.specs.Prelude.{◌≡◌, ◌↔◌, ◌⊎◌, ◌+◌, ◌<◌, ◌≤◌, ◌++◌, [], min, length, drop, Some, IfOk, OnOk, OnErr, IsErr, IsTrue, vec_len, vec_capacity};
+ghost use Rattle.std.specs.Prelude.{◌≡◌, ◌↔◌, ◌⊎◌, ◌+◌, ◌<◌, ◌≤◌, ◌++◌, [], min, length, drop};
+ghost use Rattle.std.specs.Prelude.{Some, IfOk, OnOk, OnErr, IsErr, IsTrue, vec_len, vec_capacity};
 ghost use Rattle.std.specs.Result.{is_err};
 ghost use Rattle.xv_base.specs.Fault.{Rose};
-ghost use Rattle.xv_outside.specs.Outside.{GivesFront, EndsWithTheBytes, left_after, taken_with, TookFront};
-ghost use Rattle.xv_outside.specs.Memory.{SourceState, SinkState, no_calls, fails_next, calls_after};
+ghost use Rattle.xv_outside.specs.Outside.{GivesFront, EndsWithTheBytes, left_after, taken_with};
+ghost use Rattle.xv_outside.specs.Outside.{TookFront};
+ghost use Rattle.xv_outside.specs.Memory.{SourceState, SinkState, no_calls, fails_next};
+ghost use Rattle.xv_outside.specs.Memory.{calls_after};
 
 use crate::calls::Calls;
 use crate::outside::{Failed, FetchFault, Fetched, Files, Sink, Source};

@@ -1,7 +1,9 @@
 //! The three traits of the outside.
-ghost use Rattle.std.specs.Prelude.{◌≡◌, ◌<◌, ◌≤◌, ℕ, List, Option, length, IfOk, OnOk, OnErr, IsErrOf};
+ghost use Rattle.std.specs.Prelude.{◌≡◌, ◌<◌, ◌≤◌, ℕ, List, Option, length, IfOk, OnOk, OnErr};
+ghost use Rattle.std.specs.Prelude.{IsErrOf};
 ghost use Rattle.xv_base.specs.Fault.{Rose};
-ghost use Rattle.xv_outside.specs.Outside.{GivesFront, EndsWithTheBytes, left_after, taken_with, TookFront};
+ghost use Rattle.xv_outside.specs.Outside.{GivesFront, EndsWithTheBytes, left_after, taken_with};
+ghost use Rattle.xv_outside.specs.Outside.{TookFront};
 
 use std::alloc::Global;
 

@@ -1,7 +1,8 @@
 -- What the program's data are of the interrupt controller's automaton.
 use Rattle.std.specs.Prelude.{ℕ, ◌<◌, Bool, List, [], ◌∷◌}
 use Rattle.xv_bus.specs.declared.registers.PlicRegister.{PlicRegister}
-use Rattle.xv_bus.specs.declared.registers.PlicRegister.TheVariants.{Priority, Pending, Enables, Threshold, Claim}
+use Rattle.xv_bus.specs.declared.registers.PlicRegister.TheVariants.{Priority, Pending, Enables}
+use Rattle.xv_bus.specs.declared.registers.PlicRegister.TheVariants.{Threshold, Claim}
 use Rattle.xv_bus.specs.Plic.{PlicUnit, context_line}
 use Rattle.xv_plic.specs.declared.state.PlicState.{PlicState}
 

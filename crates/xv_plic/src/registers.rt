@@ -1,5 +1,6 @@
 //! The registers, and what reads and writes make of them.
-ghost use Rattle.std.specs.Prelude.{◌≡◌, ◌^◌, ◌<◌, ◌≤◌, ◌&&◌, false, nat_lt, unwrap_or, slice_set, IfSome};
+ghost use Rattle.std.specs.Prelude.{◌≡◌, ◌^◌, ◌<◌, ◌≤◌, ◌&&◌, false, nat_lt, unwrap_or, slice_set};
+ghost use Rattle.std.specs.Prelude.{IfSome};
 ghost use Rattle.std.specs.Option.{option_map_or};
 ghost use Rattle.xv_base.specs.Bits.{has_bit, with_bit};
 ghost use Rattle.xv_bus.specs.Access.{Fits};

@@ -1,5 +1,6 @@
 -- Worked rows of the definitions, computed by the checker.
-use Rattle.std.proofs.Common.{◌≡◌, ℕ, ◌-◌, ◌^◌, Bool, true, false, List, [], ◌∷◌, replicate, Ok, Err, refl}
+use Rattle.std.proofs.Common.{◌≡◌, ℕ, ◌-◌, ◌^◌, Bool, true, false, List, [], ◌∷◌, replicate, Ok}
+use Rattle.std.proofs.Common.{Err, refl}
 use Rattle.xv_base.specs.declared.keys.Span.{Span}
 use Rattle.xv_pool.specs.declared.fault.PoolFault.TheVariants.{NoRoot, NoFrame, ReservedBusy}
 use Rattle.xv_pool.specs.FrameList.{up_from}
@@ -35,7 +36,10 @@ the_pairs = refl
 
 -- two of five frames are free and one range is held
 used : Resources
-used = record (fresh 64 5 (span 0x10000 0x10000)) { free = 66 ∷ 68 ∷ []; held = span 0x11000 0x1000 ∷ [] }
+used = record (fresh 64 5 (span 0x10000 0x10000)) {
+  free = 66 ∷ 68 ∷ [];
+  held = span 0x11000 0x1000 ∷ [];
+}
 
 -- the same with every root out
 rootless : Resources

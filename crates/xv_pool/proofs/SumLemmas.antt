@@ -1,5 +1,6 @@
 -- What a sum over all weights tells of one frame or one range.
-use Rattle.std.proofs.Common.{◌≡◌, ℕ, suc, ◌<◌, ◌==◌, Bool, true, false, ◌&&◌, cond, List, [], ◌∷◌, sum_by, refl, sym, subst, ap, ◌∙◌, arith}
+use Rattle.std.proofs.Common.{◌≡◌, ℕ, suc, ◌<◌, ◌==◌, Bool, true, false, ◌&&◌, cond, List, [], ◌∷◌}
+use Rattle.std.proofs.Common.{sum_by, refl, sym, subst, ap, ◌∙◌, arith}
 use Rattle.std.specs.List.{Contains}
 use Rattle.std.proofs.lemmas.Bool.Decides.{nat_tests}
 use Rattle.std.proofs.lemmas.List.Sums.{sum_by-cons, get_or-le-sum_by}
@@ -10,7 +11,8 @@ abbrev pub hit : ℕ → ℕ → ℕ
 hit frame other = cond (other == frame) 1 0
 
 -- a frame whose weight isn't there is none of them
-pub absent-sum_by : (frame : ℕ) (frames : List ℕ) → sum_by (hit frame) frames ≡ 0 → ¬ Contains frames frame
+pub absent-sum_by : (frame : ℕ) (frames : List ℕ) → sum_by (hit frame) frames ≡ 0
+    → ¬ Contains frames frame
 absent-sum_by frame frames none found =
     let at = get_or-le-sum_by (hit frame) frames found.0 frame found.1 in
     let whole : hit frame frame ≡ 1 = grind (arith, nat_tests) in
@@ -33,12 +35,16 @@ same a b is =
     ap (λ first. range first a.len) start ∙ ap (range b.start) len
 
 -- a range whose weight is there is one of them
-pub Contains-sum_by : (range : Span) (ranges : List Span) → 0 < sum_by (hit_range range) ranges → Contains ranges range
+pub Contains-sum_by : (range : Span) (ranges : List Span) → 0 < sum_by (hit_range range) ranges
+    → Contains ranges range
 Contains-sum_by range [] some = absurd (omega arith)
 Contains-sum_by range (first ∷ others) some =
-    either (first.start == range.start && first.len == range.len) refl (λ some_left. Contains-sum_by range others some_left)
+    either (first.start == range.start && first.len == range.len) refl
+    (λ some_left. Contains-sum_by range others some_left)
   where
-    either : (test : Bool) → (first.start == range.start && first.len == range.len) ≡ test → (0 < sum_by (hit_range range) others → Contains others range) → Contains (first ∷ others) range
+    either : (test : Bool) → (first.start == range.start && first.len == range.len) ≡ test
+        → (0 < sum_by (hit_range range) others → Contains others range)
+        → Contains (first ∷ others) range
     either true is later = (0, omega arith, same first range is)
     either false is later =
         let split = sum_by-cons (hit_range range) first others in

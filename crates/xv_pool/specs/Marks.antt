@@ -1,5 +1,6 @@
 -- A pool's frames as they are kept: a mark for each, the first mark being that of the first frame.
-use Rattle.std.specs.Prelude.{◌≡◌, ℕ, suc, ◌+◌, ◌^◌, ◌<◌, ◌≤◌, Bool, true, false, List, [], ◌∷◌, length, slice_index_or}
+use Rattle.std.specs.Prelude.{◌≡◌, ℕ, suc, ◌+◌, ◌^◌, ◌<◌, ◌≤◌, Bool, true, false, List, [], ◌∷◌}
+use Rattle.std.specs.Prelude.{length, slice_index_or}
 use Rattle.xv_pool.specs.declared.frames.Frames.TheInside.{Inside}
 use Rattle.xv_pool.specs.FrameList.{FrameList}
 
@@ -19,4 +20,5 @@ frame_list frames = record {
 pub record IsMarked (frames : Inside) : Type 0 where
   pub small : frames.first + length frames.marks.items ≤ 2 ^ 32
   pub counted : frames.free ≡ length (marked_from frames.first frames.marks.items)
-  pub next : (place : ℕ) → place < frames.next → slice_index_or frames.marks.items place false ≡ false
+  pub next : (place : ℕ) → place < frames.next
+      → slice_index_or frames.marks.items place false ≡ false

@@ -1,5 +1,6 @@
 -- What a host hands out to its guests: frames, root tables, and ranges of its reserved area.
-use Rattle.std.specs.Prelude.{◌≡◌, ℕ, ◌+◌, ◌<◌, ◌≤◌, Bool, false, List, [], length, replicate, count_by, nat_lt, if◌then◌else◌, Result, Ok, Err}
+use Rattle.std.specs.Prelude.{◌≡◌, ℕ, ◌+◌, ◌<◌, ◌≤◌, Bool, false, List, [], length, replicate}
+use Rattle.std.specs.Prelude.{count_by, nat_lt, if◌then◌else◌, Result, Ok, Err}
 use Rattle.std.specs.List.{All, list_all, list_any}
 use Rattle.std.specs.List.Sorted.{IsStrictlyIncreasing}
 use Rattle.xv_base.specs.declared.keys.Span.{Span}
@@ -46,8 +47,8 @@ fresh first count area = record {
 abbrev pub all_out : List Bool → Bool
 all_out roots = list_all (λ is_out. is_out) roots
 
--- whether a root, so many frames and these ranges can be had, or else what can't: the root first, then the
--- frames, then the ranges
+-- whether a root, so many frames and these ranges can be had, or else what can't: the root first,
+-- then the frames, then the ranges
 abbrev pub tested : Resources → ℕ → List Span → Result (Unit {0}) PoolFault
 tested pool need ranges =
     if all_out pool.roots then Err NoRoot

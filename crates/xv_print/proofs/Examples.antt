@@ -11,6 +11,7 @@ plain = refl
 
 -- a line feed, a backslash, all bits, and the neighbours of the bytes that stand for themselves
 others : map escaped (0x0A ∷ 0x5C ∷ 0xFF ∷ 0x1F ∷ 0x7F ∷ [])
-    ≡ map (λ digits. 0x5C ∷ digits) (codes "x0a" ∷ codes "x5c" ∷ codes "xff" ∷ codes "x1f" ∷ codes "x7f" ∷ [])
+    ≡ map (λ digits. 0x5C ∷ digits) (codes "x0a" ∷ codes "x5c" ∷ codes "xff" ∷ codes "x1f"
+    ∷ codes "x7f" ∷ [])
 unfolding escaped X.hex_digits
 others = refl

@@ -1,5 +1,6 @@
 //! The printer: what is printed of one answer, in room for the longest.
-ghost use Rattle.std.specs.Prelude.{◌≡◌, ℕ, ◌+◌, ◌*◌, ◌≤◌, List, [], ◌++◌, length, decimal, IfOk, vec_len, vec_capacity};
+ghost use Rattle.std.specs.Prelude.{◌≡◌, ℕ, ◌+◌, ◌*◌, ◌≤◌, List, [], ◌++◌, length, decimal, IfOk};
+ghost use Rattle.std.specs.Prelude.{vec_len, vec_capacity};
 ghost use Rattle.xv_base.specs.Text.{hex16, hex_bytes};
 ghost use Rattle.xv_print.specs.Escape.{is_plain, escape, escaped};
 

@@ -1,10 +1,12 @@
 -- Worked rows of the definitions, computed by the checker.
-use Rattle.std.proofs.Common.{◌≡◌, ℕ, ◌+◌, ◌*◌, ◌^◌, ◌==◌, Bool, true, false, if◌then◌else◌, List, [], ◌∷◌, Some, None, refl}
+use Rattle.std.proofs.Common.{◌≡◌, ℕ, ◌+◌, ◌*◌, ◌^◌, ◌==◌, Bool, true, false, if◌then◌else◌, List}
+use Rattle.std.proofs.Common.{[], ◌∷◌, Some, None, refl}
 use Rattle.xv_pte.specs.Entry.{kind_of}
 use Rattle.xv_pte.specs.declared.access.Kind3.{Kind3}
 use Rattle.xv_pte.specs.declared.access.Kind3.TheVariants.{Fetch, Load, Store}
 use Rattle.xv_pte.specs.declared.access.View.{View}
-use Rattle.xv_pte.specs.Sv39.{Reader, Verdict, Address, PageFault, NoEntry, path, verdict, entry_addresses}
+use Rattle.xv_pte.specs.Sv39.{Reader, Verdict, Address, PageFault, NoEntry, path, verdict}
+use Rattle.xv_pte.specs.Sv39.{entry_addresses}
 
 -- a reader of so many words, each with its address
 reader_of : List (ℕ × ℕ) → Reader
@@ -27,7 +29,8 @@ va = 0x4020_3456
 -- three levels, at whose end stands a leaf or whatever these flags are
 over_pages : ℕ → Reader
 over_pages flags =
-    reader_of ((0x8000_0008, entry 0x80001 0x01) ∷ (0x8000_1008, entry 0x80002 0x01) ∷ (0x8000_2018, entry 0x80123 flags) ∷ [])
+    reader_of ((0x8000_0008, entry 0x80001 0x01) ∷ (0x8000_1008, entry 0x80002 0x01)
+    ∷ (0x8000_2018, entry 0x80123 flags) ∷ [])
 
 -- the root's entry alone
 over_root : ℕ → ℕ → Reader
@@ -35,7 +38,8 @@ over_root page flags = reader_of ((0x8000_0008, entry page flags) ∷ [])
 
 -- the root's pointer, and this entry of the next table
 over_middle : ℕ → ℕ → Reader
-over_middle page flags = reader_of ((0x8000_0008, entry 0x80001 0x01) ∷ (0x8000_1008, entry page flags) ∷ [])
+over_middle page flags =
+    reader_of ((0x8000_0008, entry 0x80001 0x01) ∷ (0x8000_1008, entry page flags) ∷ [])
 
 -- LR is a load; SC and an AMO are stores
 load_reserved : Kind3
@@ -64,16 +68,19 @@ given [] = []
 given (r ∷ rs) = r.gives ∷ given rs
 
 row : Reader → View → Kind3 → Verdict → Row
-row read view access gives = record { read = read; view = view; at = va; access = access; gives = gives }
+row read view access gives =
+    record { read = read; view = view; at = va; access = access; gives = gives }
 
 -- with no entry at all
 row_at : ℕ → Kind3 → Verdict → Row
-row_at at access gives = record { read = reader_of []; view = supervisor; at = at; access = access; gives = gives }
+row_at at access gives =
+    record { read = reader_of []; view = supervisor; at = at; access = access; gives = gives }
 
 rows : List Row
 rows =
     -- Bare
-    row (reader_of []) (record { satp = 0; user = false; sum = false; mxr = false }) Store (Address va)
+    row (reader_of []) (record { satp = 0; user = false; sum = false; mxr = false })
+    Store (Address va)
     -- pages of S: R W X by access, and the bits A and D
     ∷ row (over_pages 0x43) supervisor Load (Address 0x8012_3456)
     ∷ row (over_pages 0x43) supervisor Store PageFault
@@ -93,8 +100,8 @@ rows =
     ∷ row (over_pages 0xDF) (sv39 false true false) Load (Address 0x8012_3456)
     ∷ row (over_pages 0xDF) (sv39 false true false) Store (Address 0x8012_3456)
     ∷ row (over_pages 0xDF) (sv39 false true false) Fetch PageFault
-    -- entries over which no translation goes: without V, W without R, a reserved bit, a pointer at level 0,
-    -- a pointer with A
+    -- entries over which no translation goes: without V, W without R, a reserved bit, a pointer at
+    -- level 0, a pointer with A
     ∷ row (over_pages 0xCE) supervisor Load PageFault
     ∷ row (over_pages 0xC5) supervisor Load PageFault
     ∷ row (over_pages (0xCF + 2 ^ 54)) supervisor Load PageFault
@@ -117,8 +124,8 @@ rows_of_entries =
     ∷ row (over_root 0x80001 0x11) supervisor Load PageFault
     ∷ row (over_root 0x80001 0x301) supervisor Load (NoEntry 0x8000_1008)
     ∷ row (over_middle 0x80002 0x11) supervisor Load PageFault
-    -- a leaf with those bits, and with each bit from 54 on that no extension gives a meaning here: 63 is N,
-    -- and 62:61 are PBMT
+    -- a leaf with those bits, and with each bit from 54 on that no extension gives a meaning here:
+    -- 63 is N, and 62:61 are PBMT
     ∷ row (over_pages 0x343) supervisor Load (Address 0x8012_3456)
     ∷ row (over_pages (0xCF + 2 ^ 60)) supervisor Load PageFault
     ∷ row (over_pages (0xCF + 2 ^ 61)) supervisor Load PageFault
@@ -190,15 +197,18 @@ rows_of_addresses =
     ∷ []
 
 the_rows : verdicts rows ≡ given rows
-unfolding verdict path kind_of verdicts given rows row supervisor sv39 va over_pages over_root reader_of entry
+unfolding verdict path kind_of verdicts given rows row supervisor sv39 va over_pages over_root
+    reader_of entry
 the_rows = refl
 
 the_entries : verdicts rows_of_entries ≡ given rows_of_entries
-unfolding verdict path kind_of verdicts given rows_of_entries row supervisor sv39 va over_pages over_root over_middle reader_of entry
+unfolding verdict path kind_of verdicts given rows_of_entries row supervisor sv39 va over_pages
+    over_root over_middle reader_of entry
 the_entries = refl
 
 the_accesses : verdicts rows_of_accesses ≡ given rows_of_accesses
-unfolding verdict path kind_of verdicts given rows_of_accesses row load_reserved store_conditional amo supervisor sv39 va over_pages reader_of entry
+unfolding verdict path kind_of verdicts given rows_of_accesses row load_reserved store_conditional
+    amo supervisor sv39 va over_pages reader_of entry
 the_accesses = refl
 
 the_addresses : verdicts rows_of_addresses ≡ given rows_of_addresses
@@ -206,15 +216,18 @@ unfolding verdict path kind_of verdicts given rows_of_addresses row_at superviso
 the_addresses = refl
 
 -- what is read, and no more: down to the leaf, to a leaf above, and to an entry that has no memory
-all_levels_are_read : entry_addresses (over_pages 0x43) supervisor va ≡ (0x8000_0008 ∷ 0x8000_1008 ∷ 0x8000_2018 ∷ [])
+all_levels_are_read : entry_addresses (over_pages 0x43) supervisor va
+    ≡ (0x8000_0008 ∷ 0x8000_1008 ∷ 0x8000_2018 ∷ [])
 unfolding entry_addresses path kind_of supervisor sv39 va over_pages reader_of entry
 all_levels_are_read = refl
 
-two_levels_are_read : entry_addresses (over_middle 0x80200 0xCF) supervisor va ≡ (0x8000_0008 ∷ 0x8000_1008 ∷ [])
+two_levels_are_read : entry_addresses (over_middle 0x80200 0xCF) supervisor va
+    ≡ (0x8000_0008 ∷ 0x8000_1008 ∷ [])
 unfolding entry_addresses path kind_of supervisor sv39 va over_middle reader_of entry
 two_levels_are_read = refl
 
-an_absent_entry_is_read : entry_addresses (over_root 0x80001 0x01) supervisor va ≡ (0x8000_0008 ∷ 0x8000_1008 ∷ [])
+an_absent_entry_is_read : entry_addresses (over_root 0x80001 0x01) supervisor va
+    ≡ (0x8000_0008 ∷ 0x8000_1008 ∷ [])
 unfolding entry_addresses path kind_of supervisor sv39 va over_root reader_of entry
 an_absent_entry_is_read = refl
 

@@ -36,7 +36,8 @@ reserved_bits entry = entry / 2 ^ 54
 
 -- an entry without V, with a reserved bit, or that may be written and not read
 abbrev pub is_broken : ℕ → Bool
-is_broken entry = not (is_valid entry) || not (reserved_bits entry == 0) || (is_writable entry && not (is_readable entry))
+is_broken entry = not (is_valid entry) || not (reserved_bits entry == 0)
+    || (is_writable entry && not (is_readable entry))
 
 -- R, W and X all 0
 abbrev pub is_pointer : ℕ → Bool
@@ -44,7 +45,8 @@ is_pointer entry = not (is_readable entry) && not (is_writable entry) && not (is
 
 -- a pointer whose A, D and U, which are reserved there, are 0
 abbrev pub pointer : ℕ → Kind
-pointer entry = if is_accessed entry || is_dirty entry || is_users entry then Broken else Pointer (page_number entry)
+pointer entry = if is_accessed entry || is_dirty entry
+    || is_users entry then Broken else Pointer (page_number entry)
 
 unfoldable pub kind_of : ℕ → Kind
 kind_of entry = if is_broken entry then Broken else if is_pointer entry then pointer entry else Leaf

@@ -1,13 +1,15 @@
--- Sv39: what becomes of a virtual address (Privileged Architecture 20211203, sections 4.3.2 and 4.4).
--- A reader gives the little-endian word of 8 bytes at a guest physical address, or none where there is
--- no memory.
-use Rattle.std.specs.Prelude.{ℕ, zero, suc, ◌+◌, ◌-◌, ◌*◌, ◌/◌, ◌%◌, ◌^◌, ◌==◌, Bool, true, false, not, ◌&&◌, ◌||◌, if◌then◌else◌, List, [], ◌∷◌, Option, Some, None}
+-- Sv39: what becomes of a virtual address (Privileged Architecture 20211203, sections 4.3.2 and
+-- 4.4). A reader gives the little-endian word of 8 bytes at a guest physical address, or none where
+-- there is no memory.
+use Rattle.std.specs.Prelude.{ℕ, zero, suc, ◌+◌, ◌-◌, ◌*◌, ◌/◌, ◌%◌, ◌^◌, ◌==◌, Bool, true, false}
+use Rattle.std.specs.Prelude.{not, ◌&&◌, ◌||◌, if◌then◌else◌, List, [], ◌∷◌, Option, Some, None}
 use Rattle.xv_pte.specs.declared.access.Kind3.{Kind3}
 use Rattle.xv_pte.specs.declared.access.Kind3.TheVariants.{Fetch, Load, Store}
 use Rattle.xv_pte.specs.declared.access.View.{View}
 use Rattle.xv_pte.specs.declared.entry.Kind.{Kind}
 use Rattle.xv_pte.specs.declared.entry.Kind.TheVariants.{Broken, Pointer, Leaf}
-use Rattle.xv_pte.specs.Entry.{kind_of, page_number, is_readable, is_writable, is_executable, is_users, is_accessed, is_dirty}
+use Rattle.xv_pte.specs.Entry.{kind_of, page_number, is_readable, is_writable, is_executable}
+use Rattle.xv_pte.specs.Entry.{is_users, is_accessed, is_dirty}
 
 abbrev pub Reader : Type 0
 Reader = ℕ → Option ℕ
@@ -43,19 +45,21 @@ pub record Path : Type 0 where
 -- what an entry makes of the path; on is the path from the table that a pointer names
 abbrev pub through : (ℕ → Path) → ℕ → ℕ → ℕ → Kind → Path
 through on level gpa entry Broken = record { addresses = gpa ∷ []; end = Fault }
-through on level gpa entry (Pointer page) = record { addresses = gpa ∷ (on page).addresses; end = (on page).end }
+through on level gpa entry (Pointer page) =
+    record { addresses = gpa ∷ (on page).addresses; end = (on page).end }
 through on level gpa entry Leaf = record { addresses = gpa ∷ []; end = Found level entry }
 
 abbrev pub read_entry : (ℕ → Path) → ℕ → ℕ → Option ℕ → Path
 read_entry on level gpa None = record { addresses = gpa ∷ []; end = Absent gpa }
 read_entry on level gpa (Some entry) = through on level gpa entry (kind_of entry)
 
--- the walk of a virtual address over so many levels, from the table of this page number on. No level is
--- below level 0: a pointer there is a fault
+-- the walk of a virtual address over so many levels, from the table of this page number on. No
+-- level is below level 0: a pointer there is a fault
 unfoldable pub path : Reader → ℕ → ℕ → ℕ → Path
 path read va zero page = record { addresses = []; end = Fault }
 path read va (suc level) page =
-    read_entry (path read va level) level (entry_address page level va) (read (entry_address page level va))
+    read_entry (path read va level) level (entry_address page level va)
+    (read (entry_address page level va))
 
 -- ---- permission
 
@@ -63,8 +67,10 @@ path read va (suc level) page =
 abbrev pub is_permitted : Kind3 → Bool → View → ℕ → Bool
 is_permitted Fetch true v entry = is_executable entry && is_users entry
 is_permitted Fetch false v entry = is_executable entry && not (is_users entry)
-is_permitted Load true v entry = (is_readable entry || (v.mxr && is_executable entry)) && is_users entry
-is_permitted Load false v entry = (is_readable entry || (v.mxr && is_executable entry)) && (not (is_users entry) || v.sum)
+is_permitted Load true v entry =
+    (is_readable entry || (v.mxr && is_executable entry)) && is_users entry
+is_permitted Load false v entry =
+    (is_readable entry || (v.mxr && is_executable entry)) && (not (is_users entry) || v.sum)
 is_permitted Store true v entry = is_writable entry && is_users entry
 is_permitted Store false v entry = is_writable entry && (not (is_users entry) || v.sum)
 
@@ -93,7 +99,8 @@ end_verdict v va access (Found level entry) =
     then Address (leaf_address level entry va)
     else PageFault
 
--- satp: MODE 63:60, of which 0 is Bare and else is Sv39, and the page number of the root table, 43:0
+-- satp: MODE 63:60, of which 0 is Bare and else is Sv39, and the page number of the root table,
+-- 43:0
 abbrev pub is_bare : View → Bool
 is_bare v = v.satp / 2 ^ 60 == 0
 
@@ -113,4 +120,5 @@ verdict read v va access =
 -- the addresses of the entries that are read, in order
 unfoldable pub entry_addresses : Reader → View → ℕ → List ℕ
 entry_addresses read v va =
-    if is_bare v then [] else if is_canonical va then (path read va 3 (root_page v)).addresses else []
+    if is_bare v then [] else if is_canonical va
+    then (path read va 3 (root_page v)).addresses else []

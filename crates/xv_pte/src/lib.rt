@@ -1,8 +1,8 @@
 //! Page tables: the fields of their entries, and what Sv39 makes of a virtual address.
 //!
-//! The definitions follow the Privileged Architecture 20211203, section 4.4. What of the standard is
-//! this project's profile: A and D are never set by the hart, so a leaf that lacks them is a page
-//! fault; and a pointer whose reserved bits A, D or U are set is one too.
+//! The definitions follow the Privileged Architecture 20211203, section 4.4. What of the standard
+//! is this project's profile: A and D are never set by the hart, so a leaf that lacks them is a
+//! page fault; and a pointer whose reserved bits A, D or U are set is one too.
 #![tactic(auto)]
 
 mod access;

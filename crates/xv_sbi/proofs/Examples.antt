@@ -1,7 +1,8 @@
 -- Worked rows of the definitions, computed by the checker.
 use Rattle.std.proofs.Common.{◌≡◌, ℕ, ◌-◌, ◌^◌, Bool, true, false, List, [], ◌∷◌, map, refl}
 use Rattle.xv_sbi.specs.declared.call.Call.{Call}
-use Rattle.xv_sbi.specs.declared.call.Call.TheVariants.{Probe, Fence, HartSuspend, SystemReset, Unknown}
+use Rattle.xv_sbi.specs.declared.call.Call.TheVariants.{Probe, Fence, HartSuspend, SystemReset}
+use Rattle.xv_sbi.specs.declared.call.Call.TheVariants.{Unknown}
 use Rattle.xv_sbi.specs.Calls.{call_of}
 use Rattle.xv_sbi.specs.Mask.{mask_ok, bits_ok, names}
 
@@ -23,8 +24,8 @@ the_calls : calls
 unfolding calls call_of args
 the_calls = refl
 
--- of two VCPUs: bits 0 and 1 from base 0, bit 1 from base 1, bit 2, no bit from a far base, one bit whose number would
--- wrap around to VCPU 0, and all
+-- of two VCPUs: bits 0 and 1 from base 0, bit 1 from base 1, bit 2, no bit from a far base, one bit
+-- whose number would wrap around to VCPU 0, and all
 masks : List Bool
 masks =
     mask_ok 3 0 2 ∷ mask_ok 2 1 2 ∷ mask_ok 4 0 2 ∷ mask_ok 0 1000 2
@@ -34,5 +35,6 @@ the_masks : masks ≡ (true ∷ false ∷ false ∷ true ∷ false ∷ true ∷ 
 unfolding masks mask_ok bits_ok
 the_masks = refl
 
-named : map (names 5 2) (0 ∷ 1 ∷ 2 ∷ 3 ∷ 4 ∷ 5 ∷ []) ≡ (false ∷ false ∷ true ∷ false ∷ true ∷ false ∷ [])
+named : map (names 5 2) (0 ∷ 1 ∷ 2 ∷ 3 ∷ 4 ∷ 5 ∷ [])
+    ≡ (false ∷ false ∷ true ∷ false ∷ true ∷ false ∷ [])
 named = refl

@@ -1,7 +1,11 @@
--- The calls of the Supervisor Binary Interface 1.0 that there are, by extension and function (chapters 4 and 6 to 10).
+-- The calls of the Supervisor Binary Interface 1.0 that there are, by extension and function
+-- (chapters 4 and 6 to 10).
 use Rattle.std.specs.Prelude.{ℕ, ◌%◌, ◌^◌, ◌==◌, ◌&&◌, if◌then◌else◌, List, [], ◌∷◌, slice_index}
 use Rattle.xv_sbi.specs.declared.call.Call.{Call}
-use Rattle.xv_sbi.specs.declared.call.Call.TheVariants.{SpecVersion, ImplId, ImplVersion, Probe, VendorId, ArchId, MachineId, SetTimer, Ipi, Fence, HartStart, HartStop, HartStatus, HartSuspend, SystemReset, Unknown}
+use Rattle.xv_sbi.specs.declared.call.Call.TheVariants.{SpecVersion, ImplId, ImplVersion, Probe}
+use Rattle.xv_sbi.specs.declared.call.Call.TheVariants.{VendorId, ArchId, MachineId, SetTimer, Ipi}
+use Rattle.xv_sbi.specs.declared.call.Call.TheVariants.{Fence, HartStart, HartStop, HartStatus}
+use Rattle.xv_sbi.specs.declared.call.Call.TheVariants.{HartSuspend, SystemReset, Unknown}
 
 -- a call by the extension in a7 and the function in a6, and what it keeps of the arguments a0 to a5
 pub record Row : Type 0 where
@@ -34,7 +38,8 @@ rows =
     ∷ row 0x54494D45 0 (λ args. SetTimer (argument 0 args))
     -- inter-processor interrupt (7)
     ∷ row 0x735049 0 (λ args. Ipi (argument 0 args) (argument 1 args))
-    -- remote fences: FENCE.I, SFENCE.VMA, and that with an ASID (8). Those of a hypervisor, 3 to 6, aren't there
+    -- remote fences: FENCE.I, SFENCE.VMA, and that with an ASID (8). Those of a hypervisor, 3 to 6,
+    -- aren't there
     ∷ row 0x52464E43 0 (λ args. Fence (argument 0 args) (argument 1 args))
     ∷ row 0x52464E43 1 (λ args. Fence (argument 0 args) (argument 1 args))
     ∷ row 0x52464E43 2 (λ args. Fence (argument 0 args) (argument 1 args))

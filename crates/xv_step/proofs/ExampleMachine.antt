@@ -1,13 +1,15 @@
--- A hart over 64 bytes of memory, for worked rows of the definitions: an exception is taken, and an ask is
--- answered as a machine without devices and without calls would.
-use Rattle.std.proofs.Common.{ℕ, zero, suc, ◌+◌, ◌-◌, ◌*◌, ◌/◌, ◌%◌, ◌^◌, ◌==◌, ◌++◌, Bool, true, false, ◌&&◌, if◌then◌else◌, List, [], ◌∷◌, length, Some, None, nat_le}
+-- A hart over 64 bytes of memory, for worked rows of the definitions: an exception is taken, and an
+-- ask is answered as a machine without devices and without calls would.
+use Rattle.std.proofs.Common.{ℕ, zero, suc, ◌+◌, ◌-◌, ◌*◌, ◌/◌, ◌%◌, ◌^◌, ◌==◌, ◌++◌, Bool, true}
+use Rattle.std.proofs.Common.{false, ◌&&◌, if◌then◌else◌, List, [], ◌∷◌, length, Some, None, nat_le}
 use Rattle.std.specs.Prelude.{replicate, slice_index, slice_set}
 use Rattle.xv_csr.specs.Reset.{reset_csrs}
 use Rattle.xv_csr.specs.Trap.{handler}
 use Rattle.xv_csr.specs.declared.SCsrs.{SCsrs}
 use Rattle.xv_step.specs.Bus.{Bus}
 use Rattle.xv_step.specs.State.{State, set, trapped}
-use Rattle.xv_step.specs.Outcome.{Ask, TableEntry, Target, Plain, Call, Wait, Outcome, Went, Raised, Left, access_kind, address_of, access_fault}
+use Rattle.xv_step.specs.Outcome.{Ask, TableEntry, Target, Plain, Call, Wait, Outcome, Went, Raised}
+use Rattle.xv_step.specs.Outcome.{Left, access_kind, address_of, access_fault}
 use Rattle.xv_step.specs.Perform.{Inputs}
 use Rattle.xv_step.specs.Step.{step}
 
@@ -30,7 +32,9 @@ stored_at memory at (b ∷ bs) = stored_at (slice_set memory at b) (at + 1) bs
 
 unfoldable pub bus : Bus (List ℕ) ℕ
 bus = record {
-  find = λ width gpa. if nat_le base gpa && nat_le (gpa + width) (base + 64) then Some (record { place = gpa - base; writable = nat_le (gpa + width) (base + 56) }) else None;
+  find = λ width gpa. if nat_le base gpa && nat_le (gpa + width) (base + 64)
+      then Some (record { place = gpa - base; writable = nat_le (gpa + width) (base + 56) })
+      else None;
   get = λ memory width at. number_at memory width at;
   put = λ memory width at value. stored_at memory at (bytes_of width value);
   same = λ a b. a == b;
@@ -78,11 +82,12 @@ in_user s = record s { user = true }
 unfoldable pub with_csrs : SCsrs → State (List ℕ) ℕ → State (List ℕ) ℕ
 with_csrs csrs s = record s { csrs = csrs }
 
--- Sv39 with the root table at the base: entry 2 maps 1 GiB at the base onto itself, entry 3 maps it as these
--- flags say, and the entries from 8 on have no memory
+-- Sv39 with the root table at the base: entry 2 maps 1 GiB at the base onto itself, entry 3 maps it
+-- as these flags say, and the entries from 8 on have no memory
 unfoldable pub mapped : ℕ → ℕ → List ℕ → State (List ℕ) ℕ
 mapped status flags code =
-    with_csrs (record reset_csrs { satp = 8 * 2 ^ 60 + 0x80000; sstatus = reset_csrs.sstatus + status })
+    with_csrs (record reset_csrs
+    { satp = 8 * 2 ^ 60 + 0x80000; sstatus = reset_csrs.sstatus + status })
     (start (code ++ 0x2000_00cf ∷ 0 ∷ (0x2000_0000 + flags) ∷ 0 ∷ []))
 
 -- ---- what is looked at
@@ -136,19 +141,23 @@ scratch s = slice_index s.x 1 ∷ s.csrs.sscratch ∷ []
 
 -- the software interrupt is pending, these are enabled in S, and stvec is this
 unfoldable pub enabled : (interrupts handler : ℕ) → SCsrs
-enabled interrupts handler = record reset_csrs { ssip = true; sie = interrupts; stvec = handler; sstatus = reset_csrs.sstatus + 2 }
+enabled interrupts handler =
+    record reset_csrs
+    { ssip = true; sie = interrupts; stvec = handler; sstatus = reset_csrs.sstatus + 2 }
 
 -- one step with the timer's line and the external line up
 unfoldable pub raised : SCsrs → State (List ℕ) ℕ → State (List ℕ) ℕ
 raised csrs s =
     let now = with_csrs csrs s in
-    answered now (step bus (record { lines = record { timer = true; external = true }; time = 7 }) now)
+    answered now
+    (step bus (record { lines = record { timer = true; external = true }; time = 7 }) now)
 
--- Sv39 with the root table at the base: these are entries 2 and 3, of which the second has a high half too, and
--- one word of code stands before them
+-- Sv39 with the root table at the base: these are entries 2 and 3, of which the second has a high
+-- half too, and one word of code stands before them
 unfoldable pub tables : (status two three high : ℕ) → List ℕ → State (List ℕ) ℕ
 tables status two three high code =
-    with_csrs (record reset_csrs { satp = 8 * 2 ^ 60 + 0x80000; sstatus = reset_csrs.sstatus + status })
+    with_csrs (record reset_csrs
+    { satp = 8 * 2 ^ 60 + 0x80000; sstatus = reset_csrs.sstatus + status })
     (start (code ++ 0 ∷ 0 ∷ 0 ∷ two ∷ 0 ∷ three ∷ high ∷ []))
 
 -- with x5 an address, or the pc

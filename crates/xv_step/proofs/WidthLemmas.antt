@@ -2,9 +2,24 @@
 use Rattle.std.proofs.Common.{◌≡◌, ℕ, ◌%◌, Bool, true, false, not, ltb, List, arith}
 use Rattle.xv_isa.specs.declared.instruction.Insn.{Insn}
 use Rattle.xv_isa.specs.declared.rows.Op.{Op}
-use Rattle.xv_isa.specs.declared.rows.Op.TheVariants.{Lui, Auipc, Jal, Jalr, Beq, Bne, Blt, Bge, Bltu, Bgeu, Lb, Lh, Lw, Ld, Lbu, Lhu, Lwu, Sb, Sh, Sw, Sd, Addi, Slti, Sltiu, Xori, Ori, Andi, Slli, Srli, Srai, Addiw, Slliw, Srliw, Sraiw, Add, Sll, Slt, Sltu, Xor, Srl, Or, And, Sub, Sra, Mul, Mulh, Mulhsu, Mulhu, Div, Divu, Rem, Remu, Addw, Sllw, Srlw, Subw, Sraw, Mulw, Divw, Divuw, Remw, Remuw, Fence, FenceI, Ecall, Ebreak, Sret, Wfi, SfenceVma, Csrrw, Csrrs, Csrrc, Csrrwi, Csrrsi, Csrrci, LrW, LrD, ScW, ScD, AmoswapW, AmoswapD, AmoaddW, AmoaddD, AmoxorW, AmoxorD, AmoandW, AmoandD, AmoorW, AmoorD, AmominW, AmominD, AmomaxW, AmomaxD, AmominuW, AmominuD, AmomaxuW, AmomaxuD}
+use Rattle.xv_isa.specs.declared.rows.Op.TheVariants.{Lui, Auipc, Jal, Jalr, Beq, Bne, Blt, Bge}
+use Rattle.xv_isa.specs.declared.rows.Op.TheVariants.{Bltu, Bgeu, Lb, Lh, Lw, Ld, Lbu, Lhu, Lwu, Sb}
+use Rattle.xv_isa.specs.declared.rows.Op.TheVariants.{Sh, Sw, Sd, Addi, Slti, Sltiu, Xori, Ori}
+use Rattle.xv_isa.specs.declared.rows.Op.TheVariants.{Andi, Slli, Srli, Srai, Addiw, Slliw, Srliw}
+use Rattle.xv_isa.specs.declared.rows.Op.TheVariants.{Sraiw, Add, Sll, Slt, Sltu, Xor, Srl, Or, And}
+use Rattle.xv_isa.specs.declared.rows.Op.TheVariants.{Sub, Sra, Mul, Mulh, Mulhsu, Mulhu, Div, Divu}
+use Rattle.xv_isa.specs.declared.rows.Op.TheVariants.{Rem, Remu, Addw, Sllw, Srlw, Subw, Sraw, Mulw}
+use Rattle.xv_isa.specs.declared.rows.Op.TheVariants.{Divw, Divuw, Remw, Remuw, Fence, FenceI}
+use Rattle.xv_isa.specs.declared.rows.Op.TheVariants.{Ecall, Ebreak, Sret, Wfi, SfenceVma, Csrrw}
+use Rattle.xv_isa.specs.declared.rows.Op.TheVariants.{Csrrs, Csrrc, Csrrwi, Csrrsi, Csrrci, LrW}
+use Rattle.xv_isa.specs.declared.rows.Op.TheVariants.{LrD, ScW, ScD, AmoswapW, AmoswapD, AmoaddW}
+use Rattle.xv_isa.specs.declared.rows.Op.TheVariants.{AmoaddD, AmoxorW, AmoxorD, AmoandW, AmoandD}
+use Rattle.xv_isa.specs.declared.rows.Op.TheVariants.{AmoorW, AmoorD, AmominW, AmominD, AmomaxW}
+use Rattle.xv_isa.specs.declared.rows.Op.TheVariants.{AmomaxD, AmominuW, AmominuD, AmomaxuW}
+use Rattle.xv_isa.specs.declared.rows.Op.TheVariants.{AmomaxuD}
 use Rattle.xv_isa.specs.Effects as effects
-use Rattle.xv_isa.specs.Effects.{Action, branch_if, effect, effect_of, equal, below_signed, register}
+use Rattle.xv_isa.specs.Effects.{Action, branch_if, effect, effect_of, equal, below_signed}
+use Rattle.xv_isa.specs.Effects.{register}
 use Rattle.xv_isa.specs.Rows.{operation_at}
 
 pub data IsWidth : ℕ → Type 0 where
@@ -18,15 +33,18 @@ pub record IsAccess (width gpa : ℕ) : Type 0 where
   pub bytes : IsWidth width
   pub aligned : gpa % width ≡ 0
 
-aligned_offset : (width va gpa : ℕ) → IsWidth width → va % width ≡ 0 → gpa % 4096 ≡ va % 4096 → gpa % width ≡ 0
+aligned_offset : (width va gpa : ℕ) → IsWidth width → va % width ≡ 0 → gpa % 4096 ≡ va % 4096
+    → gpa % width ≡ 0
 aligned_offset _ va gpa One aligned offset = omega arith
 aligned_offset _ va gpa Two aligned offset = omega arith
 aligned_offset _ va gpa Four aligned offset = omega arith
 aligned_offset _ va gpa Eight aligned offset = omega arith
 
 -- what is aligned is so at every address of the same offset in a page
-pub access_at : (width va gpa : ℕ) → IsWidth width → va % width ≡ 0 → gpa % 4096 ≡ va % 4096 → IsAccess width gpa
-access_at width va gpa bytes aligned offset = record { bytes = bytes; aligned = aligned_offset width va gpa bytes aligned offset }
+pub access_at : (width va gpa : ℕ) → IsWidth width → va % width ≡ 0 → gpa % 4096 ≡ va % 4096
+    → IsAccess width gpa
+access_at width va gpa bytes aligned offset =
+    record { bytes = bytes; aligned = aligned_offset width va gpa bytes aligned offset }
 
 -- ---- the accesses of an instruction
 
@@ -56,11 +74,15 @@ width_by Auipc i rs pc next = tt {0}
 width_by Jal i rs pc next = tt {0}
 width_by Jalr i rs pc next = tt {0}
 width_by Beq i rs pc next = branch_width (equal (register rs i.rs1) (register rs i.rs2)) i pc next
-width_by Bne i rs pc next = branch_width (not (equal (register rs i.rs1) (register rs i.rs2))) i pc next
-width_by Blt i rs pc next = branch_width (below_signed (register rs i.rs1) (register rs i.rs2)) i pc next
-width_by Bge i rs pc next = branch_width (not (below_signed (register rs i.rs1) (register rs i.rs2))) i pc next
+width_by Bne i rs pc next =
+    branch_width (not (equal (register rs i.rs1) (register rs i.rs2))) i pc next
+width_by Blt i rs pc next =
+    branch_width (below_signed (register rs i.rs1) (register rs i.rs2)) i pc next
+width_by Bge i rs pc next =
+    branch_width (not (below_signed (register rs i.rs1) (register rs i.rs2))) i pc next
 width_by Bltu i rs pc next = branch_width (ltb (register rs i.rs1) (register rs i.rs2)) i pc next
-width_by Bgeu i rs pc next = branch_width (not (ltb (register rs i.rs1) (register rs i.rs2))) i pc next
+width_by Bgeu i rs pc next =
+    branch_width (not (ltb (register rs i.rs1) (register rs i.rs2))) i pc next
 width_by Lb i rs pc next = One
 width_by Lh i rs pc next = Two
 width_by Lw i rs pc next = Four

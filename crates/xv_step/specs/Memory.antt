@@ -18,7 +18,8 @@ usable_spot kinds.Load spot = spot
 usable_spot kinds.Store spot = writable_spot spot
 
 -- lacks is the ask where the target has no place, and done what is done at its place
-module _ {M P : Type 0} (bus : Bus M P) (s : State M P) (access : Kind3) (width va : ℕ) (lacks : ℕ → Ask) (done : P → Outcome M P) where
+module _ {M P : Type 0} (bus : Bus M P) (s : State M P) (access : Kind3) (width va : ℕ) (lacks : ℕ
+    → Ask) (done : P → Outcome M P) where
   abbrev pub at_spot : ℕ → Option (Spot P) → Outcome M P
   at_spot gpa None = Left (lacks gpa)
   at_spot gpa (Some spot) = done spot.place

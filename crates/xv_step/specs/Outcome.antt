@@ -1,8 +1,11 @@
--- What a step comes to: a state, an exception of the hart's own, or an ask. The last two leave the state as it
--- is, and what becomes of them is said by who asks for the step.
+-- What a step comes to: a state, an exception of the hart's own, or an ask. The last two leave the
+-- state as it is, and what becomes of them is said by who asks for the step.
 use Rattle.std.specs.Prelude.{ℕ}
 use Rattle.xv_isa.specs.Effects as effects
-use Rattle.xv_csr.specs.Cause.{instruction_address_misaligned, load_address_misaligned, store_address_misaligned, instruction_access_fault, load_access_fault, store_access_fault, instruction_page_fault, load_page_fault, store_page_fault}
+use Rattle.xv_csr.specs.Cause.{instruction_address_misaligned, load_address_misaligned}
+use Rattle.xv_csr.specs.Cause.{store_address_misaligned, instruction_access_fault}
+use Rattle.xv_csr.specs.Cause.{load_access_fault, store_access_fault, instruction_page_fault}
+use Rattle.xv_csr.specs.Cause.{load_page_fault, store_page_fault}
 use Rattle.xv_pte.specs.declared.access.Kind3.TheVariants as kinds
 use Rattle.xv_pte.specs.declared.access.Kind3.{Kind3}
 use Rattle.xv_step.specs.State.{State}

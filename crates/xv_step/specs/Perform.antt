@@ -1,14 +1,18 @@
--- What an instruction does: its action, row by row. Every case that isn't an exception or an ask goes on at
--- the next instruction, but for jumps and SRET. This profile's own: stval of an illegal instruction is its
--- word, and of EBREAK (3.3.1) the pc; WFI (3.3.3) is left to who asks for the step.
-use Rattle.std.specs.Prelude.{ℕ, ◌-◌, ◌%◌, ◌^◌, ◌==◌, Bool, true, false, ◌&&◌, if◌then◌else◌, Option, Some, None, bit_and, bit_or}
+-- What an instruction does: its action, row by row. Every case that isn't an exception or an ask
+-- goes on at the next instruction, but for jumps and SRET. This profile's own: stval of an illegal
+-- instruction is its word, and of EBREAK (3.3.1) the pc; WFI (3.3.3) is left to who asks for the
+-- step.
+use Rattle.std.specs.Prelude.{ℕ, ◌-◌, ◌%◌, ◌^◌, ◌==◌, Bool, true, false, ◌&&◌, if◌then◌else◌}
+use Rattle.std.specs.Prelude.{Option, Some, None, bit_and, bit_or}
 use Rattle.xv_isa.specs.declared.rows.Op.{Op}
 use Rattle.xv_isa.specs.Effects as effects
-use Rattle.xv_isa.specs.Effects.{CsrChange, Written, BitsSet, BitsCleared, Unwritten, extended, low_bytes}
+use Rattle.xv_isa.specs.Effects.{CsrChange, Written, BitsSet, BitsCleared, Unwritten, extended}
+use Rattle.xv_isa.specs.Effects.{low_bytes}
 use Rattle.xv_isa.specs.Results.{result_of}
 use Rattle.xv_csr.specs.declared.SCsrs.{SCsrs}
 use Rattle.xv_csr.specs.declared.Lines.{Lines}
-use Rattle.xv_csr.specs.Cause.{instruction_address_misaligned, illegal_instruction, breakpoint, environment_call_from_u}
+use Rattle.xv_csr.specs.Cause.{instruction_address_misaligned, illegal_instruction, breakpoint}
+use Rattle.xv_csr.specs.Cause.{environment_call_from_u}
 use Rattle.xv_csr.specs.Fields.{instruction_alignment}
 use Rattle.xv_csr.specs.Table.{csr_read, csr_written}
 use Rattle.xv_csr.specs.Trap.{return_csrs, returns_to_user}
@@ -62,33 +66,42 @@ module _ {M P : Type 0} (bus : Bus M P) (inputs : Inputs) (word next : ℕ) (s :
   -- ---- memory (Unprivileged ISA, 2.6, and 8.2 and 8.4 for the atomics)
 
   abbrev pub loaded : ℕ → Bool → ℕ → P → Outcome M P
-  loaded width signed rd place = goes_on (set rd (extended signed width (bus.get s.memory width place)) s)
+  loaded width signed rd place =
+      goes_on (set rd (extended signed width (bus.get s.memory width place)) s)
 
   abbrev pub stored : ℕ → ℕ → P → Outcome M P
   stored width value place = goes_on (record s { memory = bus.put s.memory width place value })
 
   abbrev pub plain : effects.Access → Outcome M P
   plain (effects.Load width signed va rd) =
-      accessed bus s kinds.Load width va (λ gpa. Plain (effects.Load width signed va rd) gpa next) (loaded width signed rd)
+      accessed bus s kinds.Load width va (λ gpa. Plain (effects.Load width signed va rd) gpa next)
+      (loaded width signed rd)
   plain (effects.Store width va value) =
-      accessed bus s kinds.Store width va (λ gpa. Plain (effects.Store width va value) gpa next) (stored width value)
+      accessed bus s kinds.Store width va (λ gpa. Plain (effects.Store width va value) gpa next)
+      (stored width value)
 
   abbrev pub reserved : ℕ → ℕ → P → Outcome M P
   reserved width rd place =
-      goes_on (set rd (extended true width (bus.get s.memory width place)) (record s { held = Some (record { place = place; width = width }) }))
+      goes_on (set rd (extended true width (bus.get s.memory width place))
+      (record s { held = Some (record { place = place; width = width }) }))
 
   -- the reservation is gone whether it was held or not
   abbrev pub conditional : ℕ → ℕ → ℕ → P → Outcome M P
   conditional width value rd place =
       if is_reserved bus width place s.held
-      then goes_on (set rd 0 (record s { held = None; memory = bus.put s.memory width place value }))
+      then goes_on
+      (set rd 0 (record s { held = None; memory = bus.put s.memory width place value }))
       else goes_on (set rd 1 (record s { held = None }))
 
   -- the old bytes go to rd, and what the operation makes of them and the value is stored
   abbrev pub modified : Op → ℕ → ℕ → ℕ → P → Outcome M P
   modified op width value rd place =
       let old = extended true width (bus.get s.memory width place) in
-      goes_on (set rd old (record s { memory = bus.put s.memory width place (low_bytes width (result_of op old value)) }))
+      goes_on (set rd old
+      (record s {
+        memory = bus.put s.memory width place
+            (low_bytes width (result_of op old value));
+      }))
 
   -- ---- CSRs and modes (Unprivileged ISA, chapter 9; Privileged Architecture, 3.3 and 4.2)
 
@@ -103,7 +116,8 @@ module _ {M P : Type 0} (bus : Bus M P) (inputs : Inputs) (word next : ℕ) (s :
       csr_given rd old (new_csrs s.csrs number s.user (new_value change old))
 
   abbrev pub csr : ℕ → CsrChange → ℕ → Outcome M P
-  csr number change rd = csr_changed number change rd (csr_read s.csrs number s.user inputs.lines inputs.time)
+  csr number change rd =
+      csr_changed number change rd (csr_read s.csrs number s.user inputs.lines inputs.time)
 
   -- ECALL (3.3.1): in U an exception; in S what answers is no part of the hart
   abbrev pub environment_call : Outcome M P
@@ -111,7 +125,8 @@ module _ {M P : Type 0} (bus : Bus M P) (inputs : Inputs) (word next : ℕ) (s :
 
   -- SRET (3.3.2): the pc is sepc
   abbrev pub returned_to : Outcome M P
-  returned_to = Went (record s { pc = s.csrs.sepc; user = returns_to_user s.csrs; csrs = return_csrs s.csrs })
+  returned_to =
+      Went (record s { pc = s.csrs.sepc; user = returns_to_user s.csrs; csrs = return_csrs s.csrs })
 
   -- ---- the actions
 

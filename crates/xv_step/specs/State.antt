@@ -1,5 +1,6 @@
 -- The state of a hart between two steps.
-use Rattle.std.specs.Prelude.{ℕ, ◌==◌, Bool, false, if◌then◌else◌, List, Option, Some, None, slice_set}
+use Rattle.std.specs.Prelude.{ℕ, ◌==◌, Bool, false, if◌then◌else◌, List, Option, Some, None}
+use Rattle.std.specs.Prelude.{slice_set}
 use Rattle.xv_csr.specs.declared.SCsrs.{SCsrs}
 use Rattle.xv_base.specs.Bits.{has_bit}
 use Rattle.xv_csr.specs.Fields.{sum_bit, mxr_bit}
@@ -16,7 +17,8 @@ abbrev pub held_as : {P Q : Type 0} → (P → Q) → Option (Held P) → Option
 held_as shown None = None
 held_as shown (Some held) = Some (record { place = shown held.place; width = held.width })
 
--- 32 integer registers, the pc, whether the mode is U, the supervisor CSRs, the reservation, and memory
+-- 32 integer registers, the pc, whether the mode is U, the supervisor CSRs, the reservation, and
+-- memory
 pub record State (Memory Place : Type 0) : Type 0 where
   pub x : List ℕ
   pub pc : ℕ

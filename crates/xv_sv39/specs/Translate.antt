@@ -31,7 +31,8 @@ IsLeaf (Err fault) = Unit {0}
 -- whether a leaf maps its page for the access
 abbrev pub admits : View → Kind3 → ℕ → ℕ → Bool
 admits v access level entry =
-    sv39.is_aligned level entry && sv39.is_marked access entry && sv39.is_permitted access v.user v entry
+    sv39.is_aligned level entry && sv39.is_marked access entry
+    && sv39.is_permitted access v.user v entry
 
 -- whether data on the page may be used: U its own, S the others, and U's where SUM is set
 abbrev pub is_data_of : View → ℕ → Bool

@@ -1,5 +1,6 @@
 //! A walk over three entries, and what each access makes of its leaf.
-ghost use Rattle.std.specs.Prelude.{◌≡◌, ◌<◌, ◌≤◌, ◌==◌, ◌++◌, ◌/◌, ◌^◌, ◌⊎◌, ◌∷◌, [], Some, None, take, length, slice_index, if◌then◌else◌};
+ghost use Rattle.std.specs.Prelude.{◌≡◌, ◌<◌, ◌≤◌, ◌==◌, ◌++◌, ◌/◌, ◌^◌, ◌⊎◌, ◌∷◌, [], Some, None};
+ghost use Rattle.std.specs.Prelude.{take, length, slice_index, if◌then◌else◌};
 
 use crate::{WalkFault, Words, translate};
 use xv_pte::Kind3;

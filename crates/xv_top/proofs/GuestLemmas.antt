@@ -1,10 +1,13 @@
 -- A guest's memory through its window is the memory of its lone machine, so that both step alike.
-use Rattle.std.proofs.Common.{◌≡◌, inl, inr, ℕ, ◌+◌, ◌-◌, ◌*◌, ◌≤◌, Bool, true, false, ◌&&◌, eqb, leb, cond, List, [], ◌∷◌, length, Option, Some, None, option_map, is_some, refl, sym, ap, ◌∙◌, arith}
+use Rattle.std.proofs.Common.{◌≡◌, inl, inr, ℕ, ◌+◌, ◌-◌, ◌*◌, ◌≤◌, Bool, true, false, ◌&&◌, eqb}
+use Rattle.std.proofs.Common.{leb, cond, List, [], ◌∷◌, length, Option, Some, None, option_map}
+use Rattle.std.proofs.Common.{is_some, refl, sym, ap, ◌∙◌, arith}
 use Rattle.std.proofs.lemmas.Bool.{and_parts, leb-true}
 use Rattle.std.proofs.lemmas.Bool.Decides.{nat_tests}
 use Rattle.xv_mem.specs.Bytes.{range, put, put_word, word_at}
 use Rattle.xv_mem.proofs.Puts.{range-put_inside, range-put_outside, length-put}
-use Rattle.xv_mem.proofs.Words.{word_at-range, range-put_word_inside, range-put_word_outside, length-put_word}
+use Rattle.xv_mem.proofs.Words.{word_at-range, range-put_word_inside, range-put_word_outside}
+use Rattle.xv_mem.proofs.Words.{length-put_word}
 use Rattle.xv_step.specs.Bus.{Spot}
 use Rattle.xv_step.proofs.BusLemmas.{AreJoined, Nothing}
 use Rattle.xv_hart.specs.Window.{window_bus, host_of}
@@ -24,7 +27,11 @@ within g a n = leb flat_base a && leb (a + n) (flat_base + 4096 * g.pages)
 within_fits : (g : Guest) (a n : ℕ) → within g a n ≡ true → a - flat_base + n ≤ 4096 * g.pages
 within_fits g a n h =
     let parts = and_parts (leb flat_base a) (leb (a + n) (flat_base + 4096 * g.pages)) h in
-    omega (arith, leb-true flat_base a parts.0, leb-true (a + n) (flat_base + 4096 * g.pages) parts.1)
+    omega (
+      arith,
+      leb-true flat_base a parts.0,
+      leb-true (a + n) (flat_base + 4096 * g.pages) parts.1,
+    )
 
 -- ---- the two buses
 
@@ -41,17 +48,21 @@ pub record IsGoodFor (g : Guest) (first bytes : List ℕ) : Type 0 where
 pub same_elsewhere : (end : ℕ) (bytes : List ℕ) → SameElsewhere end bytes bytes
 same_elsewhere end bytes = record { size = refl; below = refl; above = refl }
 
-pub elsewhere_both : (end : ℕ) (first bytes now : List ℕ) → SameElsewhere end first bytes → SameElsewhere end bytes now → SameElsewhere end first now
+pub elsewhere_both : (end : ℕ) (first bytes now : List ℕ) → SameElsewhere end first bytes
+    → SameElsewhere end bytes now → SameElsewhere end first now
 elsewhere_both end first bytes now one two = record {
   size = two.size ∙ one.size;
   below = two.below ∙ one.below;
-  above = ap (λ n. range now end (n - end)) (sym one.size) ∙ (two.above ∙ (ap (λ n. range bytes end (n - end)) one.size ∙ one.above));
+  above = ap (λ n. range now end (n - end)) (sym one.size)
+      ∙ (two.above ∙ (ap (λ n. range bytes end (n - end)) one.size ∙ one.above));
 }
 
 pub good_first : (g : Guest) (first : List ℕ) → host_end g ≤ length first → IsGoodFor g first first
-good_first g first fits = record { fits = fits; elsewhere = record { size = refl; below = refl; above = refl } }
+good_first g first fits =
+    record { fits = fits; elsewhere = record { size = refl; below = refl; above = refl } }
 
-put_elsewhere : (g : Guest) (first bytes : List ℕ) (width at value : ℕ) → IsGoodFor g first bytes → host_base ≤ at → at + width ≤ host_end g → IsGoodFor g first (put_word width bytes at value)
+put_elsewhere : (g : Guest) (first bytes : List ℕ) (width at value : ℕ) → IsGoodFor g first bytes
+    → host_base ≤ at → at + width ≤ host_end g → IsGoodFor g first (put_word width bytes at value)
 put_elsewhere g first bytes width at value good from to =
     let same = length-put_word width bytes at value (omega (arith, to, good.fits)) in
     let inside : at + width ≤ length bytes = omega (arith, to, good.fits) in
@@ -59,8 +70,10 @@ put_elsewhere g first bytes width at value good from to =
       fits = omega (arith, same, good.fits);
       elsewhere = record {
         size = same ∙ good.elsewhere.size;
-        below = range-put_word_outside width bytes at value 0 host_base inside (omega (arith, good.fits)) (inl (omega (arith, from))) ∙ good.elsewhere.below;
-        above = range-put_word_outside width bytes at value (host_end g) (length first - host_end g) inside (omega (arith, good.fits, good.elsewhere.size)) (inr to) ∙ good.elsewhere.above;
+        below = range-put_word_outside width bytes at value 0 host_base inside
+            (omega (arith, good.fits)) (inl (omega (arith, from))) ∙ good.elsewhere.below;
+        above = range-put_word_outside width bytes at value (host_end g) (length first - host_end g)
+            inside (omega (arith, good.fits, good.elsewhere.size)) (inr to) ∙ good.elsewhere.above;
       };
     }
 
@@ -82,18 +95,23 @@ abbrev seen_spot : Spot ℕ → Spot Cell
 seen_spot spot = record { place = cell_at spot.place; writable = spot.writable }
 
 found_same : (b : Bool) (offset : ℕ)
-    → option_map lone_spot (cond b (Some (record { region = 0; offset = offset })) None) ≡ option_map seen_spot (option_map host_spot (cond b (Some (host_base + offset)) None))
-found_same true offset = ap (λ n. Some (lone_spot (record { region = 0; offset = n }))) (back offset)
+    → option_map lone_spot (cond b (Some (record { region = 0; offset = offset })) None)
+    ≡ option_map seen_spot (option_map host_spot (cond b (Some (host_base + offset)) None))
+found_same true offset =
+    ap (λ n. Some (lone_spot (record { region = 0; offset = n }))) (back offset)
 found_same false offset = refl
 
-spot_found : (b : Bool) (at : ℕ) (spot : Spot ℕ) → option_map host_spot (cond b (Some at) None) ≡ Some spot → (b ≡ true) × (at ≡ spot.place)
+spot_found : (b : Bool) (at : ℕ) (spot : Spot ℕ)
+    → option_map host_spot (cond b (Some at) None) ≡ Some spot → (b ≡ true) × (at ≡ spot.place)
 spot_found true at spot e = (refl, some_place e)
   where
     some_place : Some (host_spot at) ≡ Some spot → at ≡ spot.place
     some_place e = cc
 spot_found false at spot e = cc
 
-pub joined : (g : Guest) (first : List ℕ) → AreJoined (lone_bus (flat g.pages)) (window_bus (window_of g)) (seen_memory g) cell_at (IsGoodFor g first) (StandsIn g) Nothing
+pub joined : (g : Guest) (first : List ℕ)
+    → AreJoined (lone_bus (flat g.pages)) (window_bus (window_of g)) (seen_memory g) cell_at
+    (IsGoodFor g first) (StandsIn g) Nothing
 joined g first = record {
   find = λ width gpa access. inl (found_same (within g gpa width) (gpa - flat_base));
   stands = λ width gpa spot access found.
@@ -102,39 +120,53 @@ joined g first = record {
       record { first = omega (arith, there.1); last = omega (arith, there.1, fits) };
   get = λ bytes width at good stands.
       let offset : ℕ = at - host_base in
-      word_at-range width bytes host_base (4096 * g.pages) offset (omega (arith, stands.first, stands.last))
-      ∙ ap (word_at width bytes) (let e : host_base + offset ≡ at = omega (arith, stands.first) in e);
+      word_at-range width bytes host_base (4096 * g.pages) offset
+      (omega (arith, stands.first, stands.last))
+      ∙ ap (word_at width bytes)
+      (let e : host_base + offset ≡ at = omega (arith, stands.first) in e);
   put = λ bytes width at value good stands.
       let offset : ℕ = at - host_base in
       let e : host_base + offset ≡ at = omega (arith, stands.first) in
       ap (λ r. r ∷ [])
-      (sym (range-put_word_inside width bytes host_base (4096 * g.pages) offset value (omega (arith, stands.first, stands.last)) good.fits)
+      (sym (range-put_word_inside width bytes host_base (4096 * g.pages) offset value
+      (omega (arith, stands.first, stands.last)) good.fits)
       ∙ ap (λ n. range (put_word width bytes n value) host_base (4096 * g.pages)) e);
-  good = λ bytes width at value good stands. put_elsewhere g first bytes width at value good stands.first stands.last;
+  good = λ bytes width at value good stands. put_elsewhere g first bytes width at value good
+      stands.first stands.last;
   same = λ held width one other stands others. same_place one other stands.first others.first;
 }
   where
-    same_place : (one other : ℕ) → host_base ≤ one → host_base ≤ other → eqb (one - host_base) (other - host_base) ≡ eqb one other
+    same_place : (one other : ℕ) → host_base ≤ one → host_base ≤ other
+        → eqb (one - host_base) (other - host_base) ≡ eqb one other
     same_place one other a b = grind (arith, nat_tests)
 
 -- ---- loads
 
-found_there : {A : Type 0} (b : Bool) (x y : A) → cond b (Some x) None ≡ Some y → (b ≡ true) × (x ≡ y)
+found_there : {A : Type 0} (b : Bool) (x y : A) → cond b (Some x) None ≡ Some y
+    → (b ≡ true) × (x ≡ y)
 found_there true x y e = (refl, cc)
 found_there false x y e = cc
 
 -- bytes put where the window leads are a load of the lone machine
-pub same_load : (g : Guest) (mem bytes : List ℕ) (gpa at : ℕ) → host_base + 4096 * g.pages ≤ length mem → host_of (window_of g) (length bytes) gpa ≡ Some at → lone_of g (put mem at bytes) ≡ after_load (flat g.pages) gpa bytes (lone_of g mem)
+pub same_load : (g : Guest) (mem bytes : List ℕ) (gpa at : ℕ)
+    → host_base + 4096 * g.pages ≤ length mem → host_of (window_of g) (length bytes) gpa ≡ Some at
+    → lone_of g (put mem at bytes) ≡ after_load (flat g.pages) gpa bytes (lone_of g mem)
 same_load g mem bytes gpa at fits found =
     let offset : ℕ = gpa - flat_base in
     let there = found_there (within g gpa (length bytes)) (host_base + offset) at found in
-    let stored : Bool → Machine = λ b. stored_at bytes (lone_of g mem) (cond b (Some (record { region = 0; offset = offset })) None) in
+    let stored : Bool → Machine =
+    λ b. stored_at bytes (lone_of g mem)
+    (cond b (Some (record { region = 0; offset = offset })) None) in
     ap (λ a. lone_of g (put mem a bytes)) (sym there.1)
-    ∙ (ap (λ r. record (lone_of g mem) { memory = r ∷ [] }) (range-put_inside mem host_base (4096 * g.pages) offset bytes (within_fits g gpa (length bytes) there.0) fits)
+    ∙ (ap (λ r. record (lone_of g mem) { memory = r ∷ [] })
+    (range-put_inside mem host_base (4096 * g.pages) offset bytes
+    (within_fits g gpa (length bytes) there.0) fits)
     ∙ sym (ap stored there.0))
 
 -- and no other host byte changes
-pub load_elsewhere : (g : Guest) (mem bytes : List ℕ) (gpa at : ℕ) → host_end g ≤ length mem → host_of (window_of g) (length bytes) gpa ≡ Some at → SameElsewhere (host_end g) mem (put mem at bytes)
+pub load_elsewhere : (g : Guest) (mem bytes : List ℕ) (gpa at : ℕ) → host_end g ≤ length mem
+    → host_of (window_of g) (length bytes) gpa ≡ Some at
+    → SameElsewhere (host_end g) mem (put mem at bytes)
 load_elsewhere g mem bytes gpa at fits found =
     let offset : ℕ = gpa - flat_base in
     let there = found_there (within g gpa (length bytes)) (host_base + offset) at found in
@@ -143,20 +175,29 @@ load_elsewhere g mem bytes gpa at fits found =
     let within_memory : at + length bytes ≤ length mem = omega (arith, last, fits) in
     record {
       size = length-put mem at bytes within_memory;
-      below = range-put_outside mem at bytes 0 host_base within_memory (omega (arith, fits)) (inl (omega (arith, there.1)));
-      above = range-put_outside mem at bytes (host_end g) (length mem - host_end g) within_memory (omega (arith, fits)) (inr last);
+      below = range-put_outside mem at bytes 0 host_base within_memory (omega (arith, fits))
+          (inl (omega (arith, there.1)));
+      above = range-put_outside mem at bytes (host_end g) (length mem - host_end g) within_memory
+          (omega (arith, fits)) (inr last);
     }
 
 -- where the window leads, the bytes have a cell
-pub some_load : (g : Guest) (gpa n at : ℕ) → host_of (window_of g) n gpa ≡ Some at → is_some (cell (flat g.pages) gpa n) ≡ true
+pub some_load : (g : Guest) (gpa n at : ℕ) → host_of (window_of g) n gpa ≡ Some at
+    → is_some (cell (flat g.pages) gpa n) ≡ true
 some_load g gpa n at found =
-    let test : Bool → Option Cell = λ b. cond b (Some (record { region = 0; offset = gpa - flat_base })) None in
-    ap (λ b. is_some (test b)) (found_there (within g gpa n) (host_base + (gpa - flat_base)) at found).0
+    let test : Bool → Option Cell =
+    λ b. cond b (Some (record { region = 0; offset = gpa - flat_base })) None in
+    ap (λ b. is_some (test b))
+    (found_there (within g gpa n) (host_base + (gpa - flat_base)) at found).0
 
 -- where the window leads nowhere, the bytes have no cell
-pub no_load : (g : Guest) (gpa n : ℕ) → host_of (window_of g) n gpa ≡ None → cell (flat g.pages) gpa n ≡ None
-no_load g gpa n none = nowhere (within g gpa n) (host_base + (gpa - flat_base)) (record { region = 0; offset = gpa - flat_base }) none
+pub no_load : (g : Guest) (gpa n : ℕ) → host_of (window_of g) n gpa ≡ None
+    → cell (flat g.pages) gpa n ≡ None
+no_load g gpa n none =
+    nowhere (within g gpa n) (host_base + (gpa - flat_base))
+    (record { region = 0; offset = gpa - flat_base }) none
   where
-    nowhere : {A B : Type 0} (b : Bool) (x : A) (y : B) → cond b (Some x) None ≡ None → cond b (Some y) None ≡ None
+    nowhere : {A B : Type 0} (b : Bool) (x : A) (y : B) → cond b (Some x) None ≡ None
+        → cond b (Some y) None ≡ None
     nowhere true x y e = cc
     nowhere false x y e = refl

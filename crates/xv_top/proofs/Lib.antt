@@ -1,4 +1,3 @@
-mod TextLemmas
 mod ScriptLemmas
 mod GuestLemmas
 mod SimulationLemmas

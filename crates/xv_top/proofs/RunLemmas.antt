@@ -1,21 +1,25 @@
 -- A run of turns, turn by turn: what is made so far, continued by the rest, is the whole.
-use Rattle.std.proofs.Common.{◌≡◌, ℕ, suc, ◌+◌, ◌-◌, ◌<◌, ◌≤◌, Bool, true, false, List, [], refl, sym, ap, ◌∙◌, arith}
+use Rattle.std.proofs.Common.{◌≡◌, ℕ, suc, ◌+◌, ◌-◌, ◌<◌, ◌≤◌, Bool, true, false, List, [], refl}
+use Rattle.std.proofs.Common.{sym, ap, ◌∙◌, arith}
 use Rattle.xv_top.specs.World.{World, GuestEntry, RunSoFar, one_turn, pick, run_from, run_of}
 use Rattle.xv_top.specs.Manager.{going, IsTurn, IsRunEnd, idle_of}
 
 -- a run of so many turns from first has come to now, with so many made
-pub record IsGoing (turns made : ℕ) (first now : World) (idle taken_first taken_now : ℕ) : Type 0 where
+pub record IsGoing (turns made : ℕ) (first now : World)
+    (idle taken_first taken_now : ℕ) : Type 0 where
   pub work : ℕ
   pub entries : List GuestEntry
   pub whole : run_from (turns - made) (going now idle work entries) ≡ run_of turns first
   pub counted : taken_first + work ≤ taken_now
 
 -- and as long as it entered nothing into a journal, host memory is as at first
-pub record IsKept (turns made : ℕ) (first now : World) (idle taken_first taken_now : ℕ) (bytes_first bytes_now : List ℕ) : Type 0 where
+pub record IsKept (turns made : ℕ) (first now : World) (idle taken_first taken_now : ℕ)
+    (bytes_first bytes_now : List ℕ) : Type 0 where
   pub so_far : IsGoing turns made first now idle taken_first taken_now
   pub all : so_far.entries ≡ [] → bytes_now ≡ bytes_first
 
-pub turns_start : (turns : ℕ) (first : World) (taken : ℕ) → IsGoing turns 0 first first 0 taken taken
+pub turns_start : (turns : ℕ) (first : World) (taken : ℕ)
+    → IsGoing turns 0 first first 0 taken taken
 unfolding run_of
 turns_start turns first taken = record {
   work = 0;
@@ -24,7 +28,8 @@ turns_start turns first taken = record {
   counted = omega arith;
 }
 
-run_more : (n m : ℕ) (r : RunSoFar) → m ≡ suc n → run_from m r ≡ run_from n (one_turn r (pick r.world))
+run_more : (n m : ℕ) (r : RunSoFar) → m ≡ suc n
+    → run_from m r ≡ run_from n (one_turn r (pick r.world))
 unfolding run_from
 run_more n m r e = ap (λ k. run_from k r) e
 
@@ -32,11 +37,15 @@ run_done : (r : RunSoFar) → run_from 0 r ≡ r
 unfolding run_from
 run_done r = refl
 
-pub turns_go_on : (turns made : ℕ) (first now after : World) (idle taken_first taken_now taken_after : ℕ)
+pub turns_go_on : (turns made : ℕ) (first now after : World)
+    (idle taken_first taken_now taken_after : ℕ)
     → made < turns → (so_far : IsGoing turns made first now idle taken_first taken_now)
-    → (turned : Bool) → IsTurn now after turned (taken_after - taken_now) idle so_far.work so_far.entries → taken_now ≤ taken_after
+    → (turned : Bool)
+    → IsTurn now after turned (taken_after - taken_now) idle so_far.work so_far.entries
+    → taken_now ≤ taken_after
     → IsGoing turns (made + 1) first after (idle + idle_of turned) taken_first taken_after
-turns_go_on turns made first now after idle taken_first taken_now taken_after more so_far turned turn later =
+turns_go_on turns made first now after idle taken_first taken_now taken_after more so_far
+    turned turn later =
     let before = going now idle so_far.work so_far.entries in
     let r = one_turn before (pick now) in
     let e : r ≡ going after (idle + idle_of turned) r.work r.entries =
@@ -45,27 +54,41 @@ turns_go_on turns made first now after idle taken_first taken_now taken_after mo
     record {
       work = r.work;
       entries = r.entries;
-      whole = ap (run_from (turns - (made + 1))) (sym e) ∙ (sym (run_more (turns - (made + 1)) (turns - made) before (omega arith)) ∙ so_far.whole);
+      whole = ap (run_from (turns - (made + 1))) (sym e)
+          ∙ (sym (run_more (turns - (made + 1)) (turns - made) before (omega arith))
+          ∙ so_far.whole);
       counted = omega (arith, turn.work, so_far.counted, later);
     }
 
-pub kept_goes_on : (turns made : ℕ) (first now after : World) (idle taken_first taken_now taken_after : ℕ) (bytes_first bytes_now bytes_after : List ℕ)
-    → made < turns → (kept : IsKept turns made first now idle taken_first taken_now bytes_first bytes_now)
-    → (turned : Bool) → IsTurn now after turned (taken_after - taken_now) idle kept.so_far.work kept.so_far.entries → taken_now ≤ taken_after
-    → ((earlier : RunSoFar) → (one_turn earlier (pick now)).entries ≡ [] → (earlier.entries ≡ []) × (bytes_after ≡ bytes_now))
-    → IsKept turns (made + 1) first after (idle + idle_of turned) taken_first taken_after bytes_first bytes_after
+pub kept_goes_on : (turns made : ℕ) (first now after : World)
+    (idle taken_first taken_now taken_after : ℕ) (bytes_first bytes_now bytes_after : List ℕ)
+    → made < turns
+    → (kept : IsKept turns made first now idle taken_first taken_now bytes_first bytes_now)
+    → (turned : Bool)
+    → IsTurn now after turned (taken_after - taken_now) idle kept.so_far.work kept.so_far.entries
+    → taken_now ≤ taken_after
+    → ((earlier : RunSoFar) → (one_turn earlier (pick now)).entries ≡ [] → (earlier.entries ≡ [])
+    × (bytes_after ≡ bytes_now))
+    → IsKept turns (made + 1) first after (idle + idle_of turned) taken_first taken_after
+    bytes_first bytes_after
 unfolding turns_go_on
-kept_goes_on turns made first now after idle taken_first taken_now taken_after bytes_first bytes_now bytes_after more kept turned turn later stays = record {
-  so_far = turns_go_on turns made first now after idle taken_first taken_now taken_after more kept.so_far turned turn later;
-  all = λ none. let same = stays (going now idle kept.so_far.work kept.so_far.entries) none in same.1 ∙ kept.all same.0;
-}
+kept_goes_on turns made first now after idle taken_first taken_now taken_after bytes_first bytes_now
+    bytes_after more kept turned turn later stays = record {
+      so_far = turns_go_on turns made first now after idle taken_first taken_now taken_after more
+          kept.so_far turned turn later;
+      all = λ none. let same = stays (going now idle kept.so_far.work kept.so_far.entries) none in
+          same.1 ∙ kept.all same.0;
+    }
 
 -- no turn is left
-pub turns_end : (turns made : ℕ) (first now : World) (idle taken_first taken_now : ℕ) → turns ≤ made → IsGoing turns made first now idle taken_first taken_now → IsRunEnd (run_of turns first) now idle taken_first taken_now
+pub turns_end : (turns made : ℕ) (first now : World) (idle taken_first taken_now : ℕ) → turns ≤ made
+    → IsGoing turns made first now idle taken_first taken_now
+    → IsRunEnd (run_of turns first) now idle taken_first taken_now
 turns_end turns made first now idle taken_first taken_now all so_far =
     let last : run_of turns first ≡ going now idle so_far.work so_far.entries =
     sym so_far.whole
-    ∙ (ap (λ n. run_from n (going now idle so_far.work so_far.entries)) (let e : turns - made ≡ 0 = omega arith in e)
+    ∙ (ap (λ n. run_from n (going now idle so_far.work so_far.entries))
+    (let e : turns - made ≡ 0 = omega arith in e)
     ∙ run_done (going now idle so_far.work so_far.entries)) in
     record {
       world = ap (λ r. r.world) last;
@@ -74,10 +97,13 @@ turns_end turns made first now idle taken_first taken_now all so_far =
     }
 
 -- and the entries are those of the whole run
-pub entries_end : (turns made : ℕ) (first now : World) (idle taken_first taken_now : ℕ) → turns ≤ made → (so_far : IsGoing turns made first now idle taken_first taken_now) → (run_of turns first).entries ≡ so_far.entries
+pub entries_end : (turns made : ℕ) (first now : World) (idle taken_first taken_now : ℕ)
+    → turns ≤ made → (so_far : IsGoing turns made first now idle taken_first taken_now)
+    → (run_of turns first).entries ≡ so_far.entries
 entries_end turns made first now idle taken_first taken_now all so_far =
     sym (ap (λ r. r.entries) so_far.whole)
-    ∙ (ap (λ n. (run_from n (going now idle so_far.work so_far.entries)).entries) (let e : turns - made ≡ 0 = omega arith in e)
+    ∙ (ap (λ n. (run_from n (going now idle so_far.work so_far.entries)).entries)
+    (let e : turns - made ≡ 0 = omega arith in e)
     ∙ ap (λ r. r.entries) (run_done (going now idle so_far.work so_far.entries)))
 
 -- a turn is idle once

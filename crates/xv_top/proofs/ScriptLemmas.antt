@@ -2,7 +2,8 @@
 use Rattle.std.proofs.Common.{◌≡◌, ℕ, ◌⊎◌, List, [], ◌∷◌, length, refl, inl, inr, None}
 use Rattle.xv_top.specs.Script.{flat_line, poke_line, kick_line, run_line, regs_line, commands_of}
 
-pub flat_line_words : (name : List ℕ) (words : List (List ℕ)) → (flat_line name words ≡ None) ⊎ (length words ≡ 4)
+pub flat_line_words : (name : List ℕ) (words : List (List ℕ)) → (flat_line name words ≡ None)
+    ⊎ (length words ≡ 4)
 unfolding flat_line
 flat_line_words name [] = inl refl
 flat_line_words name (a ∷ []) = inl refl
@@ -11,7 +12,8 @@ flat_line_words name (a ∷ b ∷ c ∷ []) = inl refl
 flat_line_words name (a ∷ b ∷ c ∷ d ∷ []) = inr refl
 flat_line_words name (a ∷ b ∷ c ∷ d ∷ e ∷ others) = inl refl
 
-pub poke_line_words : (name : List ℕ) (words : List (List ℕ)) → (poke_line name words ≡ None) ⊎ (length words ≡ 5)
+pub poke_line_words : (name : List ℕ) (words : List (List ℕ)) → (poke_line name words ≡ None)
+    ⊎ (length words ≡ 5)
 unfolding poke_line
 poke_line_words name [] = inl refl
 poke_line_words name (a ∷ []) = inl refl
@@ -21,7 +23,8 @@ poke_line_words name (a ∷ b ∷ c ∷ d ∷ []) = inl refl
 poke_line_words name (a ∷ b ∷ c ∷ d ∷ e ∷ []) = inr refl
 poke_line_words name (a ∷ b ∷ c ∷ d ∷ e ∷ f ∷ others) = inl refl
 
-pub kick_line_words : (name : List ℕ) (words : List (List ℕ)) → (kick_line name words ≡ None) ⊎ (length words ≡ 3)
+pub kick_line_words : (name : List ℕ) (words : List (List ℕ)) → (kick_line name words ≡ None)
+    ⊎ (length words ≡ 3)
 unfolding kick_line
 kick_line_words name [] = inl refl
 kick_line_words name (a ∷ []) = inl refl
@@ -36,7 +39,8 @@ run_line_words (a ∷ []) = inl refl
 run_line_words (a ∷ b ∷ []) = inr refl
 run_line_words (a ∷ b ∷ c ∷ others) = inl refl
 
-pub regs_line_words : (name : List ℕ) (words : List (List ℕ)) → (regs_line name words ≡ None) ⊎ (length words ≡ 4)
+pub regs_line_words : (name : List ℕ) (words : List (List ℕ)) → (regs_line name words ≡ None)
+    ⊎ (length words ≡ 4)
 unfolding regs_line
 regs_line_words name [] = inl refl
 regs_line_words name (a ∷ []) = inl refl

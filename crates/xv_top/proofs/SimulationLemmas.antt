@@ -1,7 +1,9 @@
--- The hart's step over host bytes, with the monitor's answer to its trap, is the lone step of the guest's machine.
+-- The hart's step over host bytes, with the monitor's answer to its trap, is the lone step of the
+-- guest's machine.
 use Rattle.std.proofs.Common.{◌≡◌, ℕ, List, [], Option, Some, None, subst, refl, sym, ap, ◌∙◌}
 use Rattle.xv_step.specs.State.{Held as Reservation, State, trapped}
-use Rattle.xv_step.specs.Outcome.{Ask, TableEntry, Target, Plain, Call, Wait, Outcome, Went, Raised, Left}
+use Rattle.xv_step.specs.Outcome.{Ask, TableEntry, Target, Plain, Call, Wait, Outcome, Went, Raised}
+use Rattle.xv_step.specs.Outcome.{Left}
 use Rattle.xv_step.specs.Step.{step}
 use Rattle.xv_step.proofs.BusLemmas as buses
 use Rattle.xv_step.proofs.BusLemmas.{Nothing}
@@ -13,14 +15,16 @@ use Rattle.xv_hart.specs.declared.regs.Held.{Held}
 use Rattle.xv_hart.specs.declared.regs.Regs.{Regs}
 use Rattle.xv_hart.specs.Memory.{bus_of}
 use Rattle.xv_hart.specs.Window.{window_bus}
-use Rattle.xv_hart.specs.Step.{HStep, came, exit_of, state_of, inputs_of, held_of, outcome_of, hart_step, trap_of, IsWellFormed}
+use Rattle.xv_hart.specs.Step.{HStep, came, exit_of, state_of, inputs_of, held_of, outcome_of}
+use Rattle.xv_hart.specs.Step.{hart_step, trap_of, IsWellFormed}
 use Rattle.xv_lone.specs.declared.vcpu.HartState.{HartState}
 use Rattle.xv_lone.specs.declared.vcpu.HartState.TheVariants.{Started}
 use Rattle.xv_lone.specs.Cell.{Cell, Memory}
 use Rattle.xv_lone.specs.Step as lone
 use Rattle.xv_lone.specs.Step.{After, OnHart, lone_bus, inputs_at, lines_at, hart_of, goes_on}
 use Rattle.xv_top.specs.declared.guest.Guest.{Guest}
-use Rattle.xv_top.specs.Guest.{plan_of, lone_of, host_end, window_of, cell_at, view_of, on_hart_of, after_of, IsOnHart, ReservedInside, SameElsewhere}
+use Rattle.xv_top.specs.Guest.{plan_of, lone_of, host_end, window_of, cell_at, view_of, on_hart_of}
+use Rattle.xv_top.specs.Guest.{after_of, IsOnHart, ReservedInside, SameElsewhere}
 use Rattle.xv_top.specs.Monitor.{monitored}
 use Rattle.xv_top.proofs.GuestLemmas.{seen_memory, IsGoodFor, StandsIn, joined}
 use Rattle.xv_top.proofs.MonitorLemmas.{monitored_same}
@@ -31,7 +35,9 @@ pub record IsToStep (g : Guest) (t : ℕ) (r : Regs) : Type 0 where
   pub lines : r.lines ≡ lines_at 0 t (lone_of g []) g.view
   pub formed : IsWellFormed r
 
-pub with_lines : (g : Guest) (t : ℕ) (r next : Regs) → next ≡ record r { lines = lines_at 0 t (lone_of g []) g.view } → IsOnHart g t r → IsWellFormed r → IsToStep g t next
+pub with_lines : (g : Guest) (t : ℕ) (r next : Regs)
+    → next ≡ record r { lines = lines_at 0 t (lone_of g []) g.view } → IsOnHart g t r
+    → IsWellFormed r → IsToStep g t next
 with_lines g t r next is on formed =
     subst (IsToStep g t) (sym is) (record {
       on = record { window = on.window; time = on.time; reserved = on.reserved };
@@ -40,7 +46,9 @@ with_lines g t r next is on formed =
     })
 
 -- the monitor's answer leaves window, time and reservation
-pub on_again : (g : Guest) (t : ℕ) (stepped taken next : Regs) → IsOnHart g t stepped → taken ≡ stepped → next.window ≡ taken.window → next.time ≡ taken.time → next.held ≡ taken.held → IsOnHart g t next
+pub on_again : (g : Guest) (t : ℕ) (stepped taken next : Regs) → IsOnHart g t stepped
+    → taken ≡ stepped → next.window ≡ taken.window → next.time ≡ taken.time → next.held ≡ taken.held
+    → IsOnHart g t next
 on_again g t stepped taken next on same window time held = record {
   window = window ∙ (ap (λ r. r.window) same ∙ on.window);
   time = time ∙ (ap (λ r. r.time) same ∙ on.time);
@@ -50,25 +58,36 @@ on_again g t stepped taken next on same window time held = record {
 module _ (g : Guest) (t : ℕ) (first : List ℕ) where
   -- a state of the hart over host bytes, as one of the lone machine
   abbrev seen : State (List ℕ) ℕ → State Memory Cell
-  seen s = buses.seen (lone_bus (plan_of g)) (window_bus (window_of g)) (seen_memory g) cell_at (IsGoodFor g first) (StandsIn g) Nothing (joined g first) s
+  seen s = buses.seen (lone_bus (plan_of g)) (window_bus (window_of g)) (seen_memory g) cell_at
+      (IsGoodFor g first) (StandsIn g) Nothing (joined g first) s
 
   abbrev IsGood : State (List ℕ) ℕ → Type 0
-  IsGood s = buses.IsGood (lone_bus (plan_of g)) (window_bus (window_of g)) (seen_memory g) cell_at (IsGoodFor g first) (StandsIn g) Nothing (joined g first) s
+  IsGood s = buses.IsGood (lone_bus (plan_of g)) (window_bus (window_of g)) (seen_memory g) cell_at
+      (IsGoodFor g first) (StandsIn g) Nothing (joined g first) s
 
   abbrev HeldStands : Option (Reservation ℕ) → Type 0
-  HeldStands held = buses.HeldStands (lone_bus (plan_of g)) (window_bus (window_of g)) (seen_memory g) cell_at (IsGoodFor g first) (StandsIn g) Nothing (joined g first) held
+  HeldStands held =
+      buses.HeldStands (lone_bus (plan_of g)) (window_bus (window_of g)) (seen_memory g) cell_at
+      (IsGoodFor g first) (StandsIn g) Nothing (joined g first) held
 
   abbrev IsOne : Outcome Memory Cell → Outcome (List ℕ) ℕ → Type 0
-  IsOne a b = buses.IsOne (lone_bus (plan_of g)) (window_bus (window_of g)) (seen_memory g) cell_at (IsGoodFor g first) (StandsIn g) Nothing (joined g first) a b
+  IsOne a b = buses.IsOne (lone_bus (plan_of g)) (window_bus (window_of g)) (seen_memory g) cell_at
+      (IsGoodFor g first) (StandsIn g) Nothing (joined g first) a b
 
   abbrev seen_outcome : Outcome (List ℕ) ℕ → Outcome Memory Cell
-  seen_outcome o = buses.seen_outcome (lone_bus (plan_of g)) (window_bus (window_of g)) (seen_memory g) cell_at (IsGoodFor g first) (StandsIn g) Nothing (joined g first) o
+  seen_outcome o =
+      buses.seen_outcome (lone_bus (plan_of g)) (window_bus (window_of g)) (seen_memory g) cell_at
+      (IsGoodFor g first) (StandsIn g) Nothing (joined g first) o
 
   abbrev LeavesGood : Outcome (List ℕ) ℕ → Type 0
-  LeavesGood o = buses.LeavesGood (lone_bus (plan_of g)) (window_bus (window_of g)) (seen_memory g) cell_at (IsGoodFor g first) (StandsIn g) Nothing (joined g first) o
+  LeavesGood o =
+      buses.LeavesGood (lone_bus (plan_of g)) (window_bus (window_of g)) (seen_memory g) cell_at
+      (IsGoodFor g first) (StandsIn g) Nothing (joined g first) o
 
   abbrev IsLacking : Ask → Type 0
-  IsLacking ask = buses.IsLacking (lone_bus (plan_of g)) (window_bus (window_of g)) (seen_memory g) cell_at (IsGoodFor g first) (StandsIn g) Nothing (joined g first) ask
+  IsLacking ask =
+      buses.IsLacking (lone_bus (plan_of g)) (window_bus (window_of g)) (seen_memory g) cell_at
+      (IsGoodFor g first) (StandsIn g) Nothing (joined g first) ask
 
   -- what is reserved stands
   held_stands : (held : Option Held) → ReservedInside g held → HeldStands (held_of held)
@@ -91,13 +110,16 @@ module _ (g : Guest) (t : ℕ) (first : List ℕ) where
     same : of_lone ≡ seen_outcome of_host
     good : LeavesGood of_host
 
-  same_outcome : (of_lone : Outcome Memory Cell) (of_host : Outcome (List ℕ) ℕ) → IsOne of_lone of_host → SameOutcome of_lone of_host
+  same_outcome : (of_lone : Outcome Memory Cell) (of_host : Outcome (List ℕ) ℕ)
+      → IsOne of_lone of_host → SameOutcome of_lone of_host
   same_outcome of_lone of_host (buses.Same same good) = record { same = same; good = good }
   same_outcome of_lone of_host (buses.Asks ask is lacks) = absurd (none_lacking ask lacks)
 
   -- ---- one step of the hart
 
-  module _ (r : Regs) (bytes : List ℕ) (on : IsOnHart g t r) (lines : r.lines ≡ lines_at 0 t (lone_of g []) g.view) (formed : IsWellFormed r) (memory : IsGoodFor g first bytes) where
+  module _ (r : Regs) (bytes : List ℕ) (on : IsOnHart g t r)
+      (lines : r.lines ≡ lines_at 0 t (lone_of g []) g.view) (formed : IsWellFormed r)
+      (memory : IsGoodFor g first bytes) where
     abbrev s : State (List ℕ) ℕ
     s = state_of r bytes
 
@@ -119,7 +141,9 @@ module _ (g : Guest) (t : ℕ) (first : List ℕ) where
     one =
         subst (SameOutcome (step (lone_bus (plan_of g)) (inputs_of r) (seen s))) (sym outcome_is)
         (same_outcome (step (lone_bus (plan_of g)) (inputs_of r) (seen s)) host_outcome
-        (buses.step_is_one (lone_bus (plan_of g)) (window_bus (window_of g)) (seen_memory g) cell_at (IsGoodFor g first) (StandsIn g) Nothing (joined g first) s good (inputs_of r) formed.pc))
+        (buses.step_is_one (lone_bus (plan_of g)) (window_bus (window_of g)) (seen_memory g) cell_at
+        (IsGoodFor g first) (StandsIn g) Nothing (joined g first) s good
+        (inputs_of r) formed.pc))
 
     inputs_are : inputs_at 0 t (lone_of g []) g.view ≡ inputs_of r
     inputs_are =
@@ -127,9 +151,11 @@ module _ (g : Guest) (t : ℕ) (first : List ℕ) where
         ∙ ap (λ n. record { lines = r.lines; time = n }) (sym on.time)
 
     -- the lone step, by what the host's step comes to
-    lone_is : lone.stepped (plan_of g) 0 t before (view_of g r Started) ≡ lone.after (plan_of g) 0 t before (view_of g r Started) (seen_outcome (outcome_of r bytes))
+    lone_is : lone.stepped (plan_of g) 0 t before (view_of g r Started) ≡ lone.after (plan_of g) 0 t
+        before (view_of g r Started) (seen_outcome (outcome_of r bytes))
     lone_is =
-        ap (λ i. lone.after (plan_of g) 0 t before (view_of g r Started) (step (lone_bus (plan_of g)) i (hart_of before (view_of g r Started)))) inputs_are
+        ap (λ i. lone.after (plan_of g) 0 t before (view_of g r Started)
+        (step (lone_bus (plan_of g)) i (hart_of before (view_of g r Started)))) inputs_are
         ∙ ap (lone.after (plan_of g) 0 t before (view_of g r Started)) one.same
 
     next_is : LeavesNext r.pc (outcome_of r bytes)
@@ -139,7 +165,8 @@ module _ (g : Guest) (t : ℕ) (first : List ℕ) where
     abbrev after_state : State (List ℕ) ℕ → HartState → After
     after_state u state = goes_on 0 before (view_of g r Started) (seen u) state
 
-    module _ (next : Regs) (now : List ℕ) (exit : Exit) (stepped : came exit next now ≡ hart_step r bytes) where
+    module _ (next : Regs) (now : List ℕ) (exit : Exit)
+        (stepped : came exit next now ≡ hart_step r bytes) where
       step_is : came exit next now ≡ exit_of r bytes (outcome_of r bytes)
       unfolding hart_step
       step_is = stepped
@@ -150,30 +177,47 @@ module _ (g : Guest) (t : ℕ) (first : List ℕ) where
       state_after e (Left ask) = s
 
       -- a hart that made its step
-      pub done_is : ((trap : HTrap) → exit ≡ Trap trap → ⊥) → after_of g next now Started ≡ lone.stepped (plan_of g) 0 t before (view_of g r Started)
+      pub done_is : ((trap : HTrap) → exit ≡ Trap trap → ⊥)
+          → after_of g next now Started ≡ lone.stepped (plan_of g) 0 t before (view_of g r Started)
       done_is no_trap = by_outcome (outcome_of r bytes) step_is ∙ sym lone_is
         where
-          by_outcome : (o : Outcome (List ℕ) ℕ) → came exit next now ≡ exit_of r bytes o → after_of g next now Started ≡ lone.after (plan_of g) 0 t before (view_of g r Started) (seen_outcome o)
+          by_outcome : (o : Outcome (List ℕ) ℕ) → came exit next now ≡ exit_of r bytes o
+              → after_of g next now Started
+              ≡ lone.after (plan_of g) 0 t before (view_of g r Started) (seen_outcome o)
           by_outcome (Went u) e = ap (λ (h : HStep). after_state h.state Started) e
           by_outcome (Raised cause tval) e = ap (λ (h : HStep). after_state h.state Started) e
-          by_outcome (Left ask) e = absurd (no_trap (trap_of r.user ask) (ap (λ (h : HStep). h.exit) e))
+          by_outcome (Left ask) e =
+              absurd (no_trap (trap_of r.user ask) (ap (λ (h : HStep). h.exit) e))
 
       -- what the hart left, by what the monitor answers
       pub trap_is : (trap : HTrap) → exit ≡ Trap trap
-          → monitored (plan_of g) 0 t (on_hart_of g next now Started) (view_of g next Started) trap ≡ lone.stepped (plan_of g) 0 t before (view_of g r Started)
+          → monitored (plan_of g) 0 t (on_hart_of g next now Started) (view_of g next Started) trap
+          ≡ lone.stepped (plan_of g) 0 t before (view_of g r Started)
       trap_is trap left = by_outcome (outcome_of r bytes) next_is step_is ∙ sym lone_is
         where
           one_trap : (a b : HTrap) → Trap a ≡ Trap b → a ≡ b
           one_trap a b e = cc
 
-          by_outcome : (o : Outcome (List ℕ) ℕ) → LeavesNext r.pc o → came exit next now ≡ exit_of r bytes o
-              → monitored (plan_of g) 0 t (on_hart_of g next now Started) (view_of g next Started) trap ≡ lone.after (plan_of g) 0 t before (view_of g r Started) (seen_outcome o)
-          by_outcome (Went u) _ e = let no : Trap trap ≡ Done = sym left ∙ ap (λ (h : HStep). h.exit) e in cc
-          by_outcome (Raised cause tval) _ e = let no : Trap trap ≡ Done = sym left ∙ ap (λ (h : HStep). h.exit) e in cc
+          by_outcome : (o : Outcome (List ℕ) ℕ) → LeavesNext r.pc o
+              → came exit next now ≡ exit_of r bytes o
+              → monitored (plan_of g) 0 t (on_hart_of g next now Started) (view_of g next Started)
+              trap ≡ lone.after (plan_of g) 0 t before (view_of g r Started) (seen_outcome o)
+          by_outcome (Went u) _ e = let no : Trap trap ≡ Done =
+              sym left ∙ ap (λ (h : HStep). h.exit) e in cc
+          by_outcome (Raised cause tval) _ e = let no : Trap trap ≡ Done =
+              sym left ∙ ap (λ (h : HStep). h.exit) e in cc
           by_outcome (Left ask) is_next e =
-              let same : Trap trap ≡ Trap (trap_of r.user ask) = sym left ∙ ap (λ (h : HStep). h.exit) e in
-              ap (λ (h : HStep). monitored (plan_of g) 0 t (after_state h.state Started).on_hart (record (view_of g r Started) { x = h.state.x; pc = h.state.pc; user = h.state.user; csrs = h.state.csrs }) trap) e
-              ∙ (ap (monitored (plan_of g) 0 t before (view_of g r Started)) (one_trap trap (trap_of r.user ask) same)
+              let same : Trap trap ≡ Trap (trap_of r.user ask) =
+              sym left ∙ ap (λ (h : HStep). h.exit) e in
+              ap (λ (h : HStep). monitored (plan_of g) 0 t (after_state h.state Started).on_hart
+              (record (view_of g r Started) {
+                x = h.state.x;
+                pc = h.state.pc;
+                user = h.state.user;
+                csrs = h.state.csrs;
+              }) trap) e
+              ∙ (ap (monitored (plan_of g) 0 t before (view_of g r Started))
+              (one_trap trap (trap_of r.user ask) same)
               ∙ monitored_same (plan_of g) 0 t before (view_of g r Started) r.user ask is_next)
 
       -- ---- what stands after it
@@ -181,18 +225,25 @@ module _ (g : Guest) (t : ℕ) (first : List ℕ) where
       good_after : IsGood (state_of next now)
       good_after = by_outcome (outcome_of r bytes) one.good step_is
         where
-          by_outcome : (o : Outcome (List ℕ) ℕ) → LeavesGood o → came exit next now ≡ exit_of r bytes o → IsGood (state_of next now)
+          by_outcome : (o : Outcome (List ℕ) ℕ) → LeavesGood o
+              → came exit next now ≡ exit_of r bytes o → IsGood (state_of next now)
           by_outcome (Went u) leaves e = subst IsGood (sym (ap (λ (h : HStep). h.state) e)) leaves
-          by_outcome (Raised cause tval) leaves e = subst IsGood (sym (ap (λ (h : HStep). h.state) e)) (record { memory = good.memory; held = good.held })
+          by_outcome (Raised cause tval) leaves e =
+              subst IsGood (sym (ap (λ (h : HStep). h.state) e))
+              (record { memory = good.memory; held = good.held })
           by_outcome (Left ask) leaves e = subst IsGood (sym (ap (λ (h : HStep). h.state) e)) good
 
       same_rest : (next.window ≡ r.window) × (next.time ≡ r.time)
       same_rest = by_outcome (outcome_of r bytes) step_is
         where
-          by_outcome : (o : Outcome (List ℕ) ℕ) → came exit next now ≡ exit_of r bytes o → (next.window ≡ r.window) × (next.time ≡ r.time)
-          by_outcome (Went u) e = (ap (λ (h : HStep). h.window) e, ap (λ (h : HStep). h.inputs.time) e)
-          by_outcome (Raised cause tval) e = (ap (λ (h : HStep). h.window) e, ap (λ (h : HStep). h.inputs.time) e)
-          by_outcome (Left ask) e = (ap (λ (h : HStep). h.window) e, ap (λ (h : HStep). h.inputs.time) e)
+          by_outcome : (o : Outcome (List ℕ) ℕ) → came exit next now ≡ exit_of r bytes o
+              → (next.window ≡ r.window) × (next.time ≡ r.time)
+          by_outcome (Went u) e =
+              (ap (λ (h : HStep). h.window) e, ap (λ (h : HStep). h.inputs.time) e)
+          by_outcome (Raised cause tval) e =
+              (ap (λ (h : HStep). h.window) e, ap (λ (h : HStep). h.inputs.time) e)
+          by_outcome (Left ask) e =
+              (ap (λ (h : HStep). h.window) e, ap (λ (h : HStep). h.inputs.time) e)
 
       pub on_after : IsOnHart g t next
       on_after = record {

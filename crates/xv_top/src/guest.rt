@@ -1,5 +1,6 @@
 //! One guest: its memory lies in one piece of host memory, and its one VCPU runs on the hart.
-ghost use Rattle.std.specs.Prelude.{◌≡◌, ◌+◌, ◌^◌, ◌<◌, ◌≤◌, length, List, ℕ, None, is_some, [], true, false};
+ghost use Rattle.std.specs.Prelude.{◌≡◌, ◌+◌, ◌^◌, ◌<◌, ◌≤◌, length, List, ℕ, None, is_some, []};
+ghost use Rattle.std.specs.Prelude.{true, false};
 ghost use Rattle.std.specs.List.{All};
 ghost use Rattle.xv_hart.specs.Hart.{regs_of, taken_by, trail_of};
 ghost use Rattle.xv_hart.specs.Machine.{IsFit};
@@ -12,8 +13,10 @@ ghost use Rattle.xv_lone.specs.Trail.{IsTrail};
 ghost use Rattle.xv_lone.specs.Turn as turns;
 ghost use Rattle.xv_lone.specs.Vcpu.{kicked_vcpu};
 ghost use Rattle.xv_lone.specs.declared.vcpu.GuestState.TheVariants.{Running};
-ghost use Rattle.xv_top.specs.Guest.{plan_of, lone_of, time_of, new_guest, window_of, regs_of_guest, core_of};
-ghost use Rattle.xv_top.specs.Guest.{turned, turn_ending, turn_begun, IsTurned, IsPlaced, SameElsewhere, host_end};
+ghost use Rattle.xv_top.specs.Guest.{plan_of, lone_of, time_of, new_guest, window_of};
+ghost use Rattle.xv_top.specs.Guest.{regs_of_guest, core_of};
+ghost use Rattle.xv_top.specs.Guest.{turned, turn_ending, turn_begun, IsTurned, IsPlaced};
+ghost use Rattle.xv_top.specs.Guest.{SameElsewhere, host_end};
 
 use crate::layout::{FRAME_SIZE, HOST_BASE};
 use std::sync::ledger::Ledger;

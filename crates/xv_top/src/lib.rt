@@ -7,7 +7,6 @@ mod guest;
 mod layout;
 mod manager;
 mod monitor;
-mod printer;
 mod program;
 mod read;
 mod report;

@@ -1,5 +1,6 @@
 //! The manager: what each command does to the guests, and what it answers.
-ghost use Rattle.std.specs.Prelude.{◌≡◌, ℕ, ◌+◌, ◌-◌, ◌*◌, ◌^◌, ◌<◌, ◌≤◌, List, [], length, Option, Some, option_map, IfSome, true};
+ghost use Rattle.std.specs.Prelude.{◌≡◌, ℕ, ◌+◌, ◌-◌, ◌*◌, ◌^◌, ◌<◌, ◌≤◌, List, [], length, Option};
+ghost use Rattle.std.specs.Prelude.{Some, option_map, IfSome, true};
 ghost use Rattle.std.specs.Str.{bytes_eq};
 ghost use Rattle.xv_hart.specs.Hart.{taken_by};
 ghost use Rattle.xv_hart.specs.Machine.{IsFit};
@@ -9,12 +10,12 @@ use crate::command::Command;
 use crate::frames::frames_needed;
 use crate::guest::Guest;
 use crate::layout::ROOT_FRAMES;
-use crate::printer::Printer;
 use crate::report;
 use std::sync::ledger::Ledger;
 use xv_base::GuestName;
 use xv_hart::Machine;
 use xv_mem::Steps;
+use xv_print::Printer;
 
 /// The tick before a script changes it.
 const FIRST_TICK: u64 = 100;
@@ -38,7 +39,8 @@ impl Manager {
     ghost use Rattle.xv_top.specs.Layout.{memory_size, pool_frames, root_frames};
     ghost use Rattle.xv_top.specs.Answer as answers;
     ghost use Rattle.xv_top.specs.Guest.{lone_of, time_of, SameElsewhere};
-    ghost use Rattle.xv_top.specs.Manager.{live_guest, world_of, Gives, Keeps, memory_end, IsSound, IsTurn, IsRunEnd};
+    ghost use Rattle.xv_top.specs.Manager.{live_guest, world_of, Gives, Keeps, memory_end, IsSound};
+    ghost use Rattle.xv_top.specs.Manager.{IsTurn, IsRunEnd};
     ghost use Rattle.xv_top.specs.Script.{most_pages, IsInRange};
 
     /// A manager with no guest yet, over a machine whose memory is zeros.

@@ -1,10 +1,13 @@
 //! The program's call: from the script's bytes to the transcript's bytes.
-ghost use Rattle.std.specs.Prelude.{◌≡◌, ◌≢◌, ◌↔◌, ◌⊎◌, ◌+◌, ◌-◌, ◌*◌, ◌^◌, ◌<◌, ◌≤◌, ℕ, List, [], length, replicate, map, Some, None, IfSome, IfOk, OnOk, OnErr, IsErrOf};
+ghost use Rattle.std.specs.Prelude.{◌≡◌, ◌≢◌, ◌↔◌, ◌⊎◌, ◌+◌, ◌-◌, ◌*◌, ◌^◌, ◌<◌, ◌≤◌, ℕ, List, []};
+ghost use Rattle.std.specs.Prelude.{length, replicate, map, Some, None, IfSome, IfOk, OnOk, OnErr};
+ghost use Rattle.std.specs.Prelude.{IsErrOf};
 ghost use Rattle.std.specs.List.{All};
 ghost use Rattle.std.specs.String.{string_bytes};
 ghost use Rattle.xv_base.specs.Fault.{Rose};
 ghost use Rattle.xv_outside.specs.Outside.{taken_with, left_after, TookFront};
-ghost use Rattle.xv_top.specs.Boot.{AllRan, IsStopped, AreRight, ReadsAtMost, IsServed, IsRun, IsRefused, IsCutShort, IsStatus, most_read};
+ghost use Rattle.xv_top.specs.Boot.{AllRan, IsStopped, AreRight, ReadsAtMost, IsServed, IsRun};
+ghost use Rattle.xv_top.specs.Boot.{IsRefused, IsCutShort, IsStatus, most_read};
 ghost use Rattle.xv_hart.specs.Hart.{taken_by};
 ghost use Rattle.xv_hart.specs.Machine.{area_of, IsBare, IsFit};
 ghost use Rattle.xv_top.specs.Layout.{memory_size, HasMib};
@@ -15,7 +18,6 @@ ghost use Rattle.xv_top.specs.Transcript.{transcript};
 
 use crate::command::Command;
 use crate::manager::Manager;
-use crate::printer::Printer;
 use crate::read::{ReadFault, read_script};
 use crate::script::{ScriptFault, parse};
 use crate::stop::Stop;
@@ -26,6 +28,7 @@ use std::sync::ledger::{Blank, Ledger};
 use xv_hart::Machine;
 use xv_mem::Steps;
 use xv_outside::{Failed, Files, Sink, Source};
+use xv_print::Printer;
 
 /// Host memory in MiB.
 const MEM_MIB: u32 = 64;

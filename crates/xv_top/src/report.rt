@@ -1,11 +1,11 @@
 //! The lines of the answers, printed.
 ghost use Rattle.std.specs.Prelude.{◌≡◌, ◌+◌, ◌*◌, ◌<◌, ◌≤◌, [], ◌++◌, length};
-ghost use Rattle.xv_top.specs.declared.printer.TheConstants.{ROOM};
+ghost use Rattle.xv_print.specs.declared.printer.TheConstants.{ROOM};
 ghost use Rattle.xv_top.specs.Texts as texts;
 
-use crate::printer::Printer;
 use xv_csr::SCsrs;
 use xv_lone::{HartState, VcpuView};
+use xv_print::Printer;
 
 /// `refused WORD`
 #[tactic(auto, unfolding(crate::specs::Texts::refused_text))]

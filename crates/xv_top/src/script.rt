@@ -1,7 +1,10 @@
 //! The script: its grammar, line by line and word by word.
-ghost use Rattle.std.specs.Prelude.{◌≡◌, ◌≤◌, None, Some, length, map, option_map, IfOk, IfSome, IsErrOf};
+ghost use Rattle.std.specs.Prelude.{◌≡◌, ◌≤◌, None, Some, length, map, option_map, IfOk, IfSome};
+ghost use Rattle.std.specs.Prelude.{IsErrOf};
 ghost use Rattle.std.specs.List.{All};
-ghost use Rattle.xv_top.specs.Script.{IsInRange, lines, words, number_to, guest_of, is_of_guest, flat_line, poke_line, kick_line, run_line, regs_line, five_lines, commands_of, commands};
+ghost use Rattle.xv_top.specs.Script.{IsInRange, lines, words, number_to, guest_of, is_of_guest};
+ghost use Rattle.xv_top.specs.Script.{flat_line, poke_line, kick_line, run_line, regs_line};
+ghost use Rattle.xv_top.specs.Script.{five_lines, commands_of, commands};
 
 use crate::command::Command;
 use std::alloc::{AllocError, Global};

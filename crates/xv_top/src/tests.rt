@@ -33,8 +33,12 @@ fn room_of(room: usize) -> Faults {
     Faults { room, ..NO_FAULTS }
 }
 
-const FIRST: &[u8] =
-    b"guest flat a 4\nguest poke a 0x80000000 930270001383f2ffb38362006f000000\nguest kick a\nrun 1\nguest regs a 0\n";
+const FIRST: &[u8] = b"guest flat a 4
+guest poke a 0x80000000 930270001383f2ffb38362006f000000
+guest kick a
+run 1
+guest regs a 0
+";
 
 /// The answers to the lines of `FIRST`.
 const FIRST_ANSWERS: [&[u8]; 4] = [
@@ -46,17 +50,10 @@ const FIRST_ANSWERS: [&[u8]; 4] = [
 
 const UNBUILT: &[u8] = b"script 0 unbuilt\n";
 
-/// Scripts that are outside of the grammar.
-const REFUSED: [&[u8]; 9] = [
+/// Scripts that are outside of the grammar; more of them stand with the parser.
+const REFUSED: [&[u8]; 2] = [
     b"",
-    b"guest flat a 4\n",
-    b"guest flat a 4\nguest poke a 0x80000000 930270001383f2ffb38362006f000000\nguest kick a\nrun 1\nguest regs a 0",
-    b"guest flat a 4\nguest poke a 0x80000000 930270001383f2ffb38362006f000000\nguest kick a\nrun 1\nguest regs a 0\nrun 1\n",
-    b"guest flat a 0\nguest poke a 0x80000000 930270001383f2ffb38362006f000000\nguest kick a\nrun 1\nguest regs a 0\n",
-    b"guest flat a 131073\nguest poke a 0x80000000 930270001383f2ffb38362006f000000\nguest kick a\nrun 1\nguest regs a 0\n",
-    b"guest flat a 4\nguest poke a 0x80000000 930270001383f2ffb38362006f00000\nguest kick a\nrun 1\nguest regs a 0\n",
-    b"guest flat a 4\nguest poke a 0x80000000 930270001383f2ffb38362006f000000\nguest kick a\nrun 100001\nguest regs a 0\n",
-    b"guest flat a 4\nguest poke a 0x80000000 930270001383f2ffb38362006f000000\nguest kick b\nrun 1\nguest regs a 0\n",
+    b"guest flat a 4\nguest poke a 0 00\nguest kick a\nrun 100001\nguest regs a 0\n",
 ];
 
 /// The program's status, the bytes that the sink took, and of the machine the frames of its memory
@@ -143,20 +140,6 @@ fn refusals_of_words_and_scripts(rt: HostRuntime) -> Result<(), Fail> {
         assert_eq!(rt; ran.taken.as_slice(), UNBUILT, "{script:?}");
         assert_eq!(rt; ran.steps, 0, "{script:?}");
     }
-    Ok(())
-}
-
-/// A script of 1,048,577 bytes that is in the grammar but for its length.
-#[test]
-fn a_script_that_is_too_long(rt: HostRuntime) -> Result<(), Fail> {
-    let mut script = Vec::from_slice(rt.alloc(), b"guest flat a 4\nguest poke a 0 ")?;
-    for _ in 0..524_256 {
-        script.extend_from_slice(b"00")?;
-    }
-    script.extend_from_slice(b"\nguest kick a\nrun 1\nguest regs a 0\n")?;
-    let ran = run(rt.alloc(), &["boot"], &script, NO_FAULTS)?;
-    assert_eq!(rt; ran.status, 3);
-    assert_eq!(rt; ran.taken.as_slice(), UNBUILT);
     Ok(())
 }
 

@@ -27,37 +27,4 @@ fn has_bit(number: u64, bit: u64) -> bool
 }
 
 #[cfg(test)]
-mod tests {
-    use super::*;
-    use std::test::Fail;
-    use xv_base::GuestKey;
-
-    // the exceptions and the interrupts that enter a guest
-    const EXCEPTIONS: [u64; 9] = [0, 2, 3, 4, 6, 8, 12, 13, 15];
-
-    const INTERRUPTS: [u64; 3] = [2, 6, 10];
-
-    // causes past the bits of a register
-    const FAR: [u64; 6] = [64, 66, 1 << 32, INTERRUPT - 1, INTERRUPT + 66, u64::MAX];
-
-    #[test]
-    fn causes(rt: HostRuntime) -> Result<(), Fail> {
-        let h = HCsrs::for_guest(15, GuestKey(15), 7);
-        for number in 0..64u64 {
-            assert_eq!(rt;
-                delegated(&h, number),
-                EXCEPTIONS.contains(&number),
-                "{number}"
-            );
-            assert_eq!(rt;
-                delegated(&h, INTERRUPT + number),
-                INTERRUPTS.contains(&number),
-                "{number}"
-            );
-        }
-        for cause in FAR {
-            assert!(rt; !delegated(&h, cause), "{cause}");
-        }
-        Ok(())
-    }
-}
+mod tests;

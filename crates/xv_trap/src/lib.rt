@@ -7,7 +7,8 @@ ghost use Rattle.xv_base.specs.Bits.{has_bit};
 ghost use Rattle.xv_csr.specs.Fields.{sie_bit, IsInstructionAddress};
 ghost use Rattle.xv_csr.specs.Kept.{IsKept};
 ghost use Rattle.xv_csr.specs.Pending.{chosen_interrupt, first_of};
-ghost use Rattle.xv_csr.specs.Trap.{trap_status, trap_csrs, handler, return_status, return_csrs, returns_to_user};
+ghost use Rattle.xv_csr.specs.Trap.{trap_status, trap_csrs, handler, return_status, return_csrs};
+ghost use Rattle.xv_csr.specs.Trap.{returns_to_user};
 
 mod delegation;
 #[cfg(test)]

@@ -7,4 +7,5 @@ use Rattle.xv_vserial.specs.contracts.serial.Vserial.{the_row as serial_row}
 
 -- its queues are then the last that the loan had
 abbrev pub LendsSerial : MutBor UartPort → MutBor Serial → Fml
-LendsSerial uart serial = Lends the_row serial_row uart serial (λ last. record uart.now { serial = last })
+LendsSerial uart serial =
+    Lends the_row serial_row uart serial (λ last. record uart.now { serial = last })

@@ -1,19 +1,42 @@
 //! The bits of the registers that have names of their own (PC16550D, table II).
+//!
+//! Constants and lists stand here by hand, since `bitflag_items!` would write fourteen operators with
+//! them that nothing calls, each to be proved at every check.
 ghost use Rattle.std.specs.Prelude.{⊤, [], ◌∷◌, codes};
 
-use bitflags::{Flag, Flags, bitflag_items};
+use bitflags::{Flag, Flags};
 
 /// Interrupts that are enabled (section 8.7).
 #[derive(Clone, Copy, Debug, PartialEq, Eq)]
 pub struct InterruptEnable(u8);
 
-bitflag_items! {
-    impl InterruptEnable: u8 {
-        const RECEIVED_DATA = 0x1;
-        const TRANSMITTER_EMPTY = 0x2;
-        const LINE_STATUS = 0x4;
-        const MODEM_STATUS = 0x8;
-    }
+impl InterruptEnable {
+    pub const RECEIVED_DATA: InterruptEnable = InterruptEnable(0x1);
+
+    pub const TRANSMITTER_EMPTY: InterruptEnable = InterruptEnable(0x2);
+
+    pub const LINE_STATUS: InterruptEnable = InterruptEnable(0x4);
+
+    pub const MODEM_STATUS: InterruptEnable = InterruptEnable(0x8);
+
+    pub const FLAGS: &'static [Flag<InterruptEnable>] = &[
+        Flag {
+            name: "RECEIVED_DATA",
+            value: InterruptEnable::RECEIVED_DATA,
+        },
+        Flag {
+            name: "TRANSMITTER_EMPTY",
+            value: InterruptEnable::TRANSMITTER_EMPTY,
+        },
+        Flag {
+            name: "LINE_STATUS",
+            value: InterruptEnable::LINE_STATUS,
+        },
+        Flag {
+            name: "MODEM_STATUS",
+            value: InterruptEnable::MODEM_STATUS,
+        },
+    ];
 }
 
 impl Flags for InterruptEnable {
@@ -43,11 +66,21 @@ impl Flags for InterruptEnable {
 #[derive(Clone, Copy, Debug, PartialEq, Eq)]
 pub struct FifoControl(u8);
 
-bitflag_items! {
-    impl FifoControl: u8 {
-        const ENABLE = 0x1;
-        const RECEIVER_RESET = 0x2;
-    }
+impl FifoControl {
+    pub const ENABLE: FifoControl = FifoControl(0x1);
+
+    pub const RECEIVER_RESET: FifoControl = FifoControl(0x2);
+
+    pub const FLAGS: &'static [Flag<FifoControl>] = &[
+        Flag {
+            name: "ENABLE",
+            value: FifoControl::ENABLE,
+        },
+        Flag {
+            name: "RECEIVER_RESET",
+            value: FifoControl::RECEIVER_RESET,
+        },
+    ];
 }
 
 impl Flags for FifoControl {
@@ -76,10 +109,13 @@ impl Flags for FifoControl {
 #[derive(Clone, Copy, Debug, PartialEq, Eq)]
 pub struct LineControl(u8);
 
-bitflag_items! {
-    impl LineControl: u8 {
-        const DIVISOR_LATCH = 0x80;
-    }
+impl LineControl {
+    pub const DIVISOR_LATCH: LineControl = LineControl(0x80);
+
+    pub const FLAGS: &'static [Flag<LineControl>] = &[Flag::new(
+        "DIVISOR_LATCH",
+        LineControl::DIVISOR_LATCH,
+    )];
 }
 
 impl Flags for LineControl {
@@ -108,14 +144,39 @@ impl Flags for LineControl {
 #[derive(Clone, Copy, Debug, PartialEq, Eq)]
 pub struct ModemControl(u8);
 
-bitflag_items! {
-    impl ModemControl: u8 {
-        const DTR = 0x1;
-        const RTS = 0x2;
-        const OUT1 = 0x4;
-        const OUT2 = 0x8;
-        const LOOP = 0x10;
-    }
+impl ModemControl {
+    pub const DTR: ModemControl = ModemControl(0x1);
+
+    pub const RTS: ModemControl = ModemControl(0x2);
+
+    pub const OUT1: ModemControl = ModemControl(0x4);
+
+    pub const OUT2: ModemControl = ModemControl(0x8);
+
+    pub const LOOP: ModemControl = ModemControl(0x10);
+
+    pub const FLAGS: &'static [Flag<ModemControl>] = &[
+        Flag {
+            name: "DTR",
+            value: ModemControl::DTR,
+        },
+        Flag {
+            name: "RTS",
+            value: ModemControl::RTS,
+        },
+        Flag {
+            name: "OUT1",
+            value: ModemControl::OUT1,
+        },
+        Flag {
+            name: "OUT2",
+            value: ModemControl::OUT2,
+        },
+        Flag {
+            name: "LOOP",
+            value: ModemControl::LOOP,
+        },
+    ];
 }
 
 impl Flags for ModemControl {

@@ -1,5 +1,6 @@
 //! The UART as a device, its input, and its queues.
-ghost use Rattle.std.specs.Prelude.{◌≡◌, ◌↔◌, ◌+◌, ◌<◌, ◌≤◌, length, IfOk, IfErr, IsErr, OnErr, OnOk};
+ghost use Rattle.std.specs.Prelude.{◌≡◌, ◌↔◌, ◌+◌, ◌<◌, ◌≤◌, length, IfOk, IfErr, IsErr, OnErr};
+ghost use Rattle.std.specs.Prelude.{OnOk};
 ghost use Rattle.std.specs.Borrow.{sem};
 ghost use Rattle.xv_base.specs.Padded.{padded};
 ghost use Rattle.xv_base.specs.Serial.{empty_serial, queue_room};

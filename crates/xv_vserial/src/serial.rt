@@ -1,6 +1,8 @@
 //! The two queues, each over a ring whose room is taken at the start.
-ghost use Rattle.std.specs.Prelude.{◌≡◌, ◌↔◌, ◌<◌, ◌≤◌, [], length, drop, slice_get, IfOk, IfErr, IsErr, OnErr, OnOk};
-ghost use Rattle.xv_base.specs.Serial.{empty_serial, kept_size, queue_room, queue_size, received, sent};
+ghost use Rattle.std.specs.Prelude.{◌≡◌, ◌↔◌, ◌<◌, ◌≤◌, [], length, drop, slice_get, IfOk, IfErr};
+ghost use Rattle.std.specs.Prelude.{IsErr, OnErr, OnOk};
+ghost use Rattle.xv_base.specs.Serial.{empty_serial, kept_size, queue_room, queue_size, received};
+ghost use Rattle.xv_base.specs.Serial.{sent};
 
 use circular_buffer::HeapCircularBuffer;
 use std::alloc::Global;

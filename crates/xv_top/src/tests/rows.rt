@@ -25,7 +25,12 @@ satp=0000000000000000 scounteren=0000000000000000 senvcfg=0000000000000000 timer
 pub const ROWS: [Row; 5] = [
     Row {
         message: "the first script",
-        script: b"guest flat a 4\nguest poke a 0x80000000 930270001383f2ffb38362006f000000\nguest kick a\nrun 1\nguest regs a 0\n",
+        script: b"guest flat a 4
+guest poke a 0x80000000 930270001383f2ffb38362006f000000
+guest kick a
+run 1
+guest regs a 0
+",
         transcript: &[
             b"created a vcpus 1 regions 1 frames 6
 poked a 16
@@ -40,7 +45,12 @@ x4=0000000000000000 x5=0000000000000007 x6=0000000000000006 x7=000000000000000d
     },
     Row {
         message: "three turns of a loop of ADDI and JAL",
-        script: b"guest flat a 4\nguest poke a 0x80000000 938212006ff0dfff\nguest kick a\nrun 3\nguest regs a 0\n",
+        script: b"guest flat a 4
+guest poke a 0x80000000 938212006ff0dfff
+guest kick a
+run 3
+guest regs a 0
+",
         transcript: &[
             b"created a vcpus 1 regions 1 frames 6
 poked a 8
@@ -55,7 +65,12 @@ x4=0000000000000000 x5=00000000000005dc x6=0000000000000000 x7=0000000000000000
     },
     Row {
         message: "bytes behind the last page",
-        script: b"guest flat a 4\nguest poke a 0x80004000 930270001383f2ffb38362006f000000\nguest kick a\nrun 1\nguest regs a 0\n",
+        script: b"guest flat a 4
+guest poke a 0x80004000 930270001383f2ffb38362006f000000
+guest kick a
+run 1
+guest regs a 0
+",
         transcript: &[
             b"created a vcpus 1 regions 1 frames 6
 refused outside
@@ -78,7 +93,12 @@ satp=0000000000000000 scounteren=0000000000000000 senvcfg=0000000000000000 timer
     },
     Row {
         message: "more pages than there are frames",
-        script: b"guest flat a 65536\nguest poke a 0x80000000 930270001383f2ffb38362006f000000\nguest kick a\nrun 1\nguest regs a 0\n",
+        script: b"guest flat a 65536
+guest poke a 0x80000000 930270001383f2ffb38362006f000000
+guest kick a
+run 1
+guest regs a 0
+",
         transcript: &[
             b"refused frames need 65665 free 16320
 refused guest
@@ -90,7 +110,12 @@ refused guest
     },
     Row {
         message: "WFI with nothing enabled: later turns are idle",
-        script: b"guest flat a 1\nguest poke a 0x80000000 73005010930210006f000000\nguest kick a\nrun 3\nguest regs a 0\n",
+        script: b"guest flat a 1
+guest poke a 0x80000000 73005010930210006f000000
+guest kick a
+run 3
+guest regs a 0
+",
         transcript: &[
             b"created a vcpus 1 regions 1 frames 3
 poked a 12

@@ -4,4 +4,5 @@ use Rattle.xv_trap.proofs.leave.Goals as goal
 
 pub returns-clause-keeps : goal.returns-clause-keeps
 unfolding return_csrs
-returns-clause-keeps c = λ kept. rw c.return_status-csrs.ensures (return_csrs-kept c.args.csrs.now kept)
+returns-clause-keeps c =
+    λ kept. rw c.return_status-csrs.ensures (return_csrs-kept c.args.csrs.now kept)

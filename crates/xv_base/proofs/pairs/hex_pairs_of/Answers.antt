@@ -10,4 +10,6 @@ pub returns-in-Ok : goal.returns-in-Ok
 returns-in-Ok c = hex_pairs-read c.args.text.now _ (grind (arith, nat_tests)) c.in-Ok.ensures.ok
 
 pub returns-in_default : goal.returns-in_default
-returns-in_default c = hex_pairs-none c.args.text.now c.in-Err.error (grind (arith, nat_tests)) c.in-Err.ensures.err c.in_default.not-OutOfMemory
+returns-in_default c =
+    hex_pairs-none c.args.text.now c.in-Err.error (grind (arith, nat_tests)) c.in-Err.ensures.err
+    c.in_default.not-OutOfMemory

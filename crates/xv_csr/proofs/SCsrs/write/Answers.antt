@@ -6,4 +6,6 @@ use Rattle.xv_csr.proofs.SCsrs.write.Goals as goal
 
 pub returns-in-Some-clause-keeps : goal.returns-in-Some-clause-keeps
 returns-in-Some-clause-keeps c =
-    λ kept. let P : SCsrs → Type 0 = λ csrs. IsKept csrs in subst P (sym c.put.ensures.after) (register_written-kept c.args.self.now c.args.value c.in-Some.register kept)
+    λ kept. let P : SCsrs → Type 0 = λ csrs. IsKept csrs in
+    subst P (sym c.put.ensures.after)
+    (register_written-kept c.args.self.now c.args.value c.in-Some.register kept)

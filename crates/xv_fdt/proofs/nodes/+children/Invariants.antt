@@ -13,8 +13,12 @@ invariant-loop-nodes l = record {
   forward : l.from ≤ l.at;
   few : length l.nodes.items ≤ l.at;
   so_far :
-      with_front l.nodes.items (grammar.children (length l.nodes.items) l.parent l.depth (taken_in l.names) (spec.tokens l.blocks.structure.now l.blocks.strings.now l.at))
-      ≡ with_front l.fn.nodes.items (grammar.children (length l.fn.nodes.items) l.parent l.depth grammar.nobody (spec.tokens l.blocks.structure.now l.blocks.strings.now l.from));
+      with_front l.nodes.items
+      (grammar.children (length l.nodes.items) l.parent l.depth (taken_in l.names)
+      (spec.tokens l.blocks.structure.now l.blocks.strings.now l.at))
+      ≡ with_front l.fn.nodes.items
+      (grammar.children (length l.fn.nodes.items) l.parent l.depth grammar.nobody
+      (spec.tokens l.blocks.structure.now l.blocks.strings.now l.from));
 }
 
 abbrev pub decreases-loop-nodes : goal.decreases-loop-nodes

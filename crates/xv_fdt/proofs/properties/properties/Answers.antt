@@ -14,7 +14,8 @@ returns-in_err-prop-in-Prop-clause-exact c =
     let strings = c.args.blocks.now.strings.now in
     let place = c.next_token-mark.result.1 in
     rw (p.1, p.2)
-    (properties-end c.in_err-prop-in-Prop.field-0.0 c.loop-names.props.items (taken_in c.loop-names.names) place (spec.property_at structure strings place)
+    (properties-end c.in_err-prop-in-Prop.field-0.0 c.loop-names.props.items
+    (taken_in c.loop-names.names) place (spec.property_at structure strings place)
     (spec.tokens structure strings c.loop-names.at) (spec.tokens structure strings place) _ _
     (c.next_token-mark.ensures.same strings)
     (tokens-at structure strings place _ (c.next_token-mark.ensures.mark ∙ c.in-Prop.is))
@@ -29,12 +30,19 @@ loop-names-preserved c =
     let found = c.in_ok-prop-in-Prop.ensures in
     record {
       near = found.near;
-      forward = omega (arith, found.forward, c.next_token-mark.ensures.forward, c.loop-names.invariant.forward);
+      forward = omega
+          (arith, found.forward, c.next_token-mark.ensures.forward, c.loop-names.invariant.forward);
       so_far =
-          ap (λ items. with_front items (grammar.properties (taken_in c.property.new.names) (spec.tokens structure strings next))) c.in_ok-push-in-Prop.ensures.items
-          ∙ properties-more c.loop-names.props.items (taken_in c.loop-names.names) (taken_in c.property.new.names) place (spec.property_at structure strings place) c.in_ok-prop-in-Prop.prop
-          (spec.tokens structure strings c.loop-names.at) (spec.tokens structure strings place) (spec.tokens structure strings next) _
-          (c.next_token-mark.ensures.same strings) found.behind found.exact found.taken c.loop-names.invariant.so_far;
+          ap (λ items. with_front items
+          (grammar.properties (taken_in c.property.new.names)
+          (spec.tokens structure strings next))) c.in_ok-push-in-Prop.ensures.items
+          ∙ properties-more c.loop-names.props.items (taken_in c.loop-names.names)
+          (taken_in c.property.new.names) place (spec.property_at structure strings place)
+          c.in_ok-prop-in-Prop.prop
+          (spec.tokens structure strings c.loop-names.at) (spec.tokens structure strings place)
+          (spec.tokens structure strings next) _
+          (c.next_token-mark.ensures.same strings) found.behind found.exact found.taken
+          c.loop-names.invariant.so_far;
     }
 
 pub returns-in_default : goal.returns-in_default
@@ -44,8 +52,10 @@ returns-in_default c =
     let place = c.next_token-mark.result.1 in
     record {
       exact =
-          properties-done c.loop-names.props.items (taken_in c.loop-names.names) structure strings place c.next_token-mark.result.0 (spec.tokens structure strings c.loop-names.at) _
-          c.next_token-mark.ensures.mark c.in_default.not-Prop c.next_token-mark.ensures.solid (c.next_token-mark.ensures.same strings) c.loop-names.invariant.so_far;
+          properties-done c.loop-names.props.items (taken_in c.loop-names.names) structure strings
+          place c.next_token-mark.result.0 (spec.tokens structure strings c.loop-names.at) _
+          c.next_token-mark.ensures.mark c.in_default.not-Prop c.next_token-mark.ensures.solid
+          (c.next_token-mark.ensures.same strings) c.loop-names.invariant.so_far;
       forward = omega arith;
       near = omega arith;
     }

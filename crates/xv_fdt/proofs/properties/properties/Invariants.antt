@@ -9,8 +9,11 @@ invariant-loop-names l = record {
   near : l.at ≤ length l.blocks.structure.now + 3;
   forward : l.from ≤ l.at;
   so_far :
-      with_front l.props.items (grammar.properties (taken_in l.names) (spec.tokens l.blocks.structure.now l.blocks.strings.now l.at))
-      ≡ grammar.properties grammar.nobody (spec.tokens l.blocks.structure.now l.blocks.strings.now l.from);
+      with_front l.props.items
+      (grammar.properties (taken_in l.names)
+      (spec.tokens l.blocks.structure.now l.blocks.strings.now l.at))
+      ≡ grammar.properties grammar.nobody
+      (spec.tokens l.blocks.structure.now l.blocks.strings.now l.from);
 }
 
 abbrev pub decreases-loop-names : goal.decreases-loop-names

@@ -7,5 +7,8 @@ pub returns-clause-behind : goal.returns-clause-behind
 returns-clause-behind c =
     let structure = c.args.blocks.now.structure.now in
     let strings = c.args.blocks.now.strings.now in
-    tokens-property structure strings c.args.at (record { name = c.in-Ok.found.0.now; value = c.in-Ok.found.1.now }) c.requires.mark c.in-Ok.ensures.found
-    ∙ ap (λ len. spec.Prop c.args.at (spec.property_at structure strings c.args.at) ∷ spec.tokens structure strings (c.args.at + 12 + len)) (sym c.padded_len.ensures.padded_len)
+    tokens-property structure strings c.args.at
+    (record { name = c.in-Ok.found.0.now; value = c.in-Ok.found.1.now }) c.requires.mark
+    c.in-Ok.ensures.found
+    ∙ ap (λ len. spec.Prop c.args.at (spec.property_at structure strings c.args.at)
+    ∷ spec.tokens structure strings (c.args.at + 12 + len)) (sym c.padded_len.ensures.padded_len)

@@ -5,7 +5,8 @@ use Rattle.xv_fdt.specs.Grammar.{IsAllowed, tree}
 use Rattle.xv_fdt.specs.Tree.{Entry}
 use Rattle.xv_fdt.proofs.reading.read.Goals as goal
 
-is_allowed : (bytes : List ℕ) (r : Result (List Entry) FdtFault) → Gives (λ found. found) r (tree bytes) → IfOk r IsAllowed
+is_allowed : (bytes : List ℕ) (r : Result (List Entry) FdtFault)
+    → Gives (λ found. found) r (tree bytes) → IfOk r IsAllowed
 is_allowed bytes (Ok entries) found = (bytes, found)
 is_allowed bytes (Err e) found = tt
 

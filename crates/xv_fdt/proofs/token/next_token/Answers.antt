@@ -8,9 +8,12 @@ loop-at-preserved c =
     record {
       near = omega arith;
       forward = omega arith;
-      same = λ strings. sym (tokens-nop c.args.block.now strings c.loop-at.at (sym c.in-Nop.ensures.mark)) ∙ c.loop-at.invariant.same strings;
+      same = λ strings. sym
+          (tokens-nop c.args.block.now strings c.loop-at.at (sym c.in-Nop.ensures.mark))
+          ∙ c.loop-at.invariant.same strings;
     }
 
 pub loop-at-smaller : goal.loop-at-smaller
 loop-at-smaller c =
-    let whole : c.loop-at.at + 4 ≤ length c.args.block.now = c.in-Nop.ensures.whole (λ other. cc) in omega arith
+    let whole : c.loop-at.at + 4 ≤ length c.args.block.now = c.in-Nop.ensures.whole (λ other. cc) in
+    omega arith

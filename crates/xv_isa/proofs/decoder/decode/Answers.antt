@@ -8,8 +8,10 @@ returns-in_default-clause-none c = all_miss c.args.word c.in_default.ensures
 
 pub returns-clause-one : goal.returns-clause-one
 returns-clause-one c =
-    decoded_one c.args.word c.in-Some.found.place c.in-Some.found.form c.operands.result c.in-Some.ensures c.operands.ensures
+    decoded_one c.args.word c.in-Some.found.place c.in-Some.found.form c.operands.result
+    c.in-Some.ensures c.operands.ensures
 
 pub returns-clause-range : goal.returns-clause-range
 returns-clause-range c =
-    decoded_range c.args.word c.in-Some.found.place c.in-Some.found.form c.operands.result c.in-Some.ensures c.operands.ensures
+    decoded_range c.args.word c.in-Some.found.place c.in-Some.found.form c.operands.result
+    c.in-Some.ensures c.operands.ensures

@@ -8,7 +8,11 @@ unfolding bits_ok
 loop-bit-init c = refl
 
 pub loop-bit-preserved : goal.loop-bit-preserved
-loop-bit-preserved c = bits_ok-more c.args.mask c.args.base c.args.vcpus c.loop-bit.bit c.loop-bit.invariant (sym c.if-not-bit_ok.ensures)
+loop-bit-preserved c =
+    bits_ok-more c.args.mask c.args.base c.args.vcpus c.loop-bit.bit c.loop-bit.invariant
+    (sym c.if-not-bit_ok.ensures)
 
 pub returns-then-not-bit_ok : goal.returns-then-not-bit_ok
-returns-then-not-bit_ok c = sym (bits_ok-wrong c.args.mask c.args.base c.args.vcpus 64 c.loop-bit.bit (omega arith) (sym c.if-not-bit_ok.ensures))
+returns-then-not-bit_ok c =
+    sym (bits_ok-wrong c.args.mask c.args.base c.args.vcpus 64 c.loop-bit.bit (omega arith)
+    (sym c.if-not-bit_ok.ensures))

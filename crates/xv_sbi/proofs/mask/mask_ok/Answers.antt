@@ -6,6 +6,11 @@ pub returns-else-base-eq-ALL_VCPUS-clause-named : goal.returns-else-base-eq-ALL_
 returns-else-base-eq-ALL_VCPUS-clause-named c =
     λ ok. names-there c.args.mask c.args.base c.args.vcpus (sym c.bits_ok.ensures ∙ ok)
 
-pub returns-else-base-eq-ALL_VCPUS-clause-missing : goal.returns-else-base-eq-ALL_VCPUS-clause-missing
+pub returns-else-base-eq-ALL_VCPUS-clause-missing :
+    goal.returns-else-base-eq-ALL_VCPUS-clause-missing
 returns-else-base-eq-ALL_VCPUS-clause-missing c =
-    λ missing. (c.if-base-eq-ALL_VCPUS.false, names-missing c.args.mask c.args.base c.args.vcpus (sym c.bits_ok.ensures ∙ missing) c.if-base-eq-ALL_VCPUS.false)
+    λ missing. (
+      c.if-base-eq-ALL_VCPUS.false,
+      names-missing c.args.mask c.args.base c.args.vcpus
+          (sym c.bits_ok.ensures ∙ missing) c.if-base-eq-ALL_VCPUS.false,
+    )

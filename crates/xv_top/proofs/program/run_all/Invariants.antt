@@ -7,7 +7,9 @@ use Rattle.xv_top.proofs.program.run_all.Given as goal
 
 abbrev pub invariant-loop-command : goal.invariant-loop-command
 invariant-loop-command g l = record {
-  answered : IsAnswered l.all l.command-index (world_of l.fn.manager l.fn.machine.mem) (world_of l.manager l.machine.mem) (g.K.Sink.taken l.fn.sink) (g.K.Sink.taken l.sink) (taken_by l.machine.hart);
+  answered : IsAnswered l.all l.command-index (world_of l.fn.manager l.fn.machine.mem)
+      (world_of l.manager l.machine.mem) (g.K.Sink.taken l.fn.sink) (g.K.Sink.taken l.sink)
+      (taken_by l.machine.hart);
   sound : IsSound l.manager l.machine.mem;
   fit : IsFit l.machine;
   size : length l.machine.mem ≡ length l.fn.machine.mem;

@@ -10,16 +10,28 @@ pub returns-in-Ok-read_script-clause-run : goal.returns-in-Ok-read_script-clause
 returns-in-Ok-read_script-clause-run g c =
     let left = g.S.Source.left c.args.source.now in
     let told = subst (IsTextOf left) (sym c.deref.ensures.value) c.in-Ok-read_script.ensures.text in
-    on_ok_weaker c.run_script.result (run_is c.args.mib left (g.S.Source.left c.read_script.new.source) (g.K.Sink.taken c.args.sink.now) (g.K.Sink.taken c.run_script.new.sink) c.deref.result.now told c.run_script.new.machine c.in-Ok-read_script.ensures.left) (c.run_script.ensures.served c.args.mib (ap length c.in-Ok.ensures.memory ∙ length-replicate (memory_size c.args.mib) 0) c.in-Ok.ensures.area)
+    on_ok_weaker c.run_script.result
+    (run_is c.args.mib left (g.S.Source.left c.read_script.new.source)
+    (g.K.Sink.taken c.args.sink.now) (g.K.Sink.taken c.run_script.new.sink) c.deref.result.now
+    told c.run_script.new.machine c.in-Ok-read_script.ensures.left)
+    (c.run_script.ensures.served c.args.mib (ap length c.in-Ok.ensures.memory
+    ∙ length-replicate (memory_size c.args.mib) 0) c.in-Ok.ensures.area)
 
 pub returns-in-Ok-read_script-clause-refused : goal.returns-in-Ok-read_script-clause-refused
 returns-in-Ok-read_script-clause-refused g c h =
     let left = g.S.Source.left c.args.source.now in
     let told = subst (IsTextOf left) (sym c.deref.ensures.value) c.in-Ok-read_script.ensures.text in
-    refused_is c.args.mib left (g.S.Source.left c.read_script.new.source) (g.K.Sink.taken c.args.sink.now) (g.K.Sink.taken c.run_script.new.sink) c.deref.result.now told c.in-Ok-read_script.ensures.left (c.run_script.ensures.refused h) (c.run_script.ensures.refused_line h)
+    refused_is c.args.mib left (g.S.Source.left c.read_script.new.source)
+    (g.K.Sink.taken c.args.sink.now) (g.K.Sink.taken c.run_script.new.sink) c.deref.result.now
+    told c.in-Ok-read_script.ensures.left (c.run_script.ensures.refused h)
+    (c.run_script.ensures.refused_line h)
 
 pub returns-in-Ok-read_script-clause-write_fault : goal.returns-in-Ok-read_script-clause-write_fault
 returns-in-Ok-read_script-clause-write_fault g c h =
     let left = g.S.Source.left c.args.source.now in
     let told = subst (IsTextOf left) (sym c.deref.ensures.value) c.in-Ok-read_script.ensures.text in
-    cut_is c.args.mib left (g.S.Source.left c.read_script.new.source) (g.K.Sink.taken c.args.sink.now) (g.K.Sink.taken c.run_script.new.sink) c.deref.result.now told (g.K.Sink.faults c.args.sink.now) (g.K.Sink.faults c.run_script.new.sink) (c.run_script.ensures.write_fault c.args.mib (ap length c.in-Ok.ensures.memory ∙ length-replicate (memory_size c.args.mib) 0) h) (c.run_script.ensures.cause h)
+    cut_is c.args.mib left (g.S.Source.left c.read_script.new.source)
+    (g.K.Sink.taken c.args.sink.now) (g.K.Sink.taken c.run_script.new.sink) c.deref.result.now
+    told (g.K.Sink.faults c.args.sink.now) (g.K.Sink.faults c.run_script.new.sink)
+    (c.run_script.ensures.write_fault c.args.mib (ap length c.in-Ok.ensures.memory
+    ∙ length-replicate (memory_size c.args.mib) 0) h) (c.run_script.ensures.cause h)

@@ -12,6 +12,8 @@ loop-number-preserved c =
     let i = c.loop-number.number in
     let x = c.args.x.now in
     record {
-      text = rw add-one (c.register.ensures.text ∙ (ap (λ t. t ++ register_text x i) c.loop-number.invariant.text ∙ append_assoc c.args.printer.now (registers_text x i) (register_text x i)));
+      text = rw add-one (c.register.ensures.text
+          ∙ (ap (λ t. t ++ register_text x i) c.loop-number.invariant.text
+          ∙ append_assoc c.args.printer.now (registers_text x i) (register_text x i)));
       short = omega (arith, c.register.ensures.short, c.loop-number.invariant.short);
     }

@@ -5,4 +5,5 @@ use Rattle.xv_trap.proofs.delegation.has_bit.Goals as goal
 
 pub returns-else-bit-lt64 : goal.returns-else-bit-lt64
 returns-else-bit-lt64 c =
-    rw (has_bit-past c.args.number c.args.bit (omega arith) c.if-bit-lt64.false) (grind (arith, nat_tests))
+    rw (has_bit-past c.args.number c.args.bit (omega arith) c.if-bit-lt64.false)
+    (grind (arith, nat_tests))

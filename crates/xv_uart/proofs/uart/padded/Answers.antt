@@ -6,5 +6,7 @@ pub returns : goal.returns
 returns c =
     let front = c.as_slices.result.0.now in
     let back = c.as_slices.result.1.now in
-    let fits : length front + length back ≤ 16 = omega (arith, c.requires, length-append front back, ap length c.as_slices.ensures) in
-    rw (c.overwrite-2.ensures, c.overwrite.ensures, ← c.as_slices.ensures) (padded-pieces front back fits)
+    let fits : length front + length back ≤ 16 =
+    omega (arith, c.requires, length-append front back, ap length c.as_slices.ensures) in
+    rw (c.overwrite-2.ensures, c.overwrite.ensures, ← c.as_slices.ensures)
+    (padded-pieces front back fits)

@@ -12,7 +12,8 @@ pub returns-in-Some-clause-step : goal.returns-in-Some-clause-step
 returns-in-Some-clause-step g c =
     let r = c.args.self.now in
     let bytes = c.args.mem.now in
-    came_trapped r bytes c.trap.result c.trap.new.self c.in-Some.cause 0 c.trap.ensures.done c.trap.ensures.regs
+    came_trapped r bytes c.trap.result c.trap.new.self c.in-Some.cause 0 c.trap.ensures.done
+    c.trap.ensures.regs
     ∙ sym (step_is r bytes (Some c.in-Some.cause) (sym c.chosen.ensures ∙ c.in-Some.is))
 
 pub returns-in-Err-clause-step : goal.returns-in-Err-clause-step
@@ -20,7 +21,8 @@ returns-in-Err-clause-step g c =
     let r = c.args.self.now in
     let bytes = c.args.mem.now in
     ◌∙◌ {b = fetch_of r bytes}
-    (c.in-Err.ensures.stops (Target kinds.Fetch r.pc) (at_word (bus_of r) (inputs_of r) (state_of r bytes)) (λ gpa. refl))
+    (c.in-Err.ensures.stops (Target kinds.Fetch r.pc)
+    (at_word (bus_of r) (inputs_of r) (state_of r bytes)) (λ gpa. refl))
     (sym (step_is r bytes None (sym c.chosen.ensures ∙ c.in_default.is)))
 
 pub returns-clause-step : goal.returns-clause-step
@@ -30,8 +32,14 @@ returns-clause-step g c =
     let bus = bus_of r in
     ◌∙◌ {b = fetch_of r bytes}
     (◌∙◌ {b = exit_of r bytes (at_word bus (inputs_of r) (state_of r bytes) c.in-Ok.at)}
-    (◌∙◌ {b = exit_of r bytes (executed bus (inputs_of r) (state_of r bytes) c.read32-word.result (decode_of c.read32-word.result))}
+    (◌∙◌ {b = exit_of r bytes
+    (executed bus (inputs_of r) (state_of r bytes) c.read32-word.result
+    (decode_of c.read32-word.result))}
     c.execute.ensures.came
-    (ap (λ word. exit_of r bytes (executed bus (inputs_of r) (state_of r bytes) word (decode_of word))) c.read32-word.ensures.value))
-    (sym (ap (exit_of r bytes) (c.in-Ok.ensures.reaches (Target kinds.Fetch r.pc) (at_word bus (inputs_of r) (state_of r bytes))))))
+    (ap (λ word. exit_of r bytes
+    (executed bus (inputs_of r) (state_of r bytes) word (decode_of word)))
+    c.read32-word.ensures.value))
+    (sym (ap (exit_of r bytes)
+    (c.in-Ok.ensures.reaches (Target kinds.Fetch r.pc)
+    (at_word bus (inputs_of r) (state_of r bytes))))))
     (sym (step_is r bytes None (sym c.chosen.ensures ∙ c.in_default.is)))

@@ -6,9 +6,11 @@ use Rattle.xv_plic.proofs.registers.Registers.line.Goals as goal
 pub returns-then-is_above_threshold : goal.returns-then-is_above_threshold
 unfolding context_line
 returns-then-is_above_threshold c =
-    sym (some_below-finds (is_above_threshold c.args.self.now c.args.context) 64 c.loop-id.id c.loop-id-test.true (sym c.is_above_threshold.ensures ∙ c.if-is_above_threshold.true))
+    sym (some_below-finds (is_above_threshold c.args.self.now c.args.context) 64 c.loop-id.id
+    c.loop-id-test.true (sym c.is_above_threshold.ensures ∙ c.if-is_above_threshold.true))
 
 pub returns : goal.returns
 unfolding context_line
 returns c =
-    sym (some_below-none (is_above_threshold c.args.self.now c.args.context) 64 (λ k below. c.loop-id.invariant k (omega (arith, below, c.loop-id-test.false))))
+    sym (some_below-none (is_above_threshold c.args.self.now c.args.context) 64
+    (λ k below. c.loop-id.invariant k (omega (arith, below, c.loop-id-test.false))))

@@ -9,4 +9,5 @@ returns-in-10-clause-monitored c bytes =
     let g = c.args.self.now in
     let r = c.args.regs.now in
     c.call.ensures.calls g c.args.time bytes
-    ∙ sym (monitored_call (plan_of g) 0 c.args.time (on_hart_of g r bytes Started) (view_of g r Started) c.args.trap.now c.in-10.is)
+    ∙ sym (monitored_call (plan_of g) 0 c.args.time (on_hart_of g r bytes Started)
+    (view_of g r Started) c.args.trap.now c.in-10.is)

@@ -10,13 +10,15 @@ returns-clause-loaded c _ =
     let n = length c.args.bytes.now in
     ap (lone_of g) c.copy_in.ensures.bytes
     ∙ same_load g c.args.mem.now c.args.bytes.now c.args.gpa c.in-Some.at c.requires.pages
-    (ap (λ w. host_of w n c.args.gpa) (sym c.window.ensures) ∙ (sym c.host_of.ensures ∙ c.in-Some.is))
+    (ap (λ w. host_of w n c.args.gpa) (sym c.window.ensures)
+    ∙ (sym c.host_of.ensures ∙ c.in-Some.is))
 
 pub returns-clause-inside : goal.returns-clause-inside
 returns-clause-inside c _ =
     let n = length c.args.bytes.now in
     some_load c.args.self.now c.args.gpa n c.in-Some.at
-    (ap (λ w. host_of w n c.args.gpa) (sym c.window.ensures) ∙ (sym c.host_of.ensures ∙ c.in-Some.is))
+    (ap (λ w. host_of w n c.args.gpa) (sym c.window.ensures)
+    ∙ (sym c.host_of.ensures ∙ c.in-Some.is))
 
 pub returns-clause-elsewhere : goal.returns-clause-elsewhere
 returns-clause-elsewhere c =
@@ -24,4 +26,5 @@ returns-clause-elsewhere c =
     let n = length c.args.bytes.now in
     subst (SameElsewhere (host_end g) c.args.mem.now) (sym c.copy_in.ensures.bytes)
     (load_elsewhere g c.args.mem.now c.args.bytes.now c.args.gpa c.in-Some.at c.requires.pages
-    (ap (λ w. host_of w n c.args.gpa) (sym c.window.ensures) ∙ (sym c.host_of.ensures ∙ c.in-Some.is)))
+    (ap (λ w. host_of w n c.args.gpa) (sym c.window.ensures)
+    ∙ (sym c.host_of.ensures ∙ c.in-Some.is)))

@@ -6,7 +6,8 @@ use Rattle.xv_hart.specs.Step.{IsWellFormed}
 use Rattle.xv_lone.specs.Ready.{has_interrupt}
 use Rattle.xv_top.specs.Guest.{lone_of, window_of, host_end, regs_of_guest, IsOnHart, IsPlaced}
 use Rattle.xv_top.proofs.GuestLemmas.{same_elsewhere, elsewhere_both}
-use Rattle.xv_top.proofs.TurnLemmas.{IsTurning, turning_starts, turning_goes_on, turning_stops, turning_ends, piece_few}
+use Rattle.xv_top.proofs.TurnLemmas.{IsTurning, turning_starts, turning_goes_on, turning_stops}
+use Rattle.xv_top.proofs.TurnLemmas.{turning_ends, piece_few}
 use Rattle.xv_top.proofs.guest.Guest.run.Goals as goal
 
 pub loop-made-init : goal.loop-made-init
@@ -16,12 +17,18 @@ loop-made-init g c =
     let begun = c.requires.begun in
     let none = c.requires.trail in
     record {
-      turning = subst (λ r. IsTurning guest c.args.time first 0 r first (trail_of c.args.machine.now.hart)) (sym begun)
-          (subst (IsTurning guest c.args.time first 0 (regs_of_guest guest c.args.time) first) (sym none)
-          (turning_starts guest c.args.time first (has_interrupt 0 c.args.time (lone_of guest []) guest.view) c.requires.may));
-      on = subst (IsOnHart guest c.args.time) (sym begun) (record { window = refl; time = refl; reserved = tt {0} });
-      formed = subst IsWellFormed (sym begun) (record { pc = c.requires.placed.pc; csrs = c.requires.placed.csrs });
-      windows = subst (All (λ r. r.window ≡ window_of guest)) (sym none) (All-nil (λ r. r.window ≡ window_of guest));
+      turning = subst (λ r. IsTurning guest c.args.time first 0 r first
+          (trail_of c.args.machine.now.hart)) (sym begun)
+          (subst (IsTurning guest c.args.time first 0 (regs_of_guest guest c.args.time) first)
+          (sym none)
+          (turning_starts guest c.args.time first
+          (has_interrupt 0 c.args.time (lone_of guest []) guest.view) c.requires.may));
+      on = subst (IsOnHart guest c.args.time) (sym begun)
+          (record { window = refl; time = refl; reserved = tt {0} });
+      formed = subst IsWellFormed (sym begun)
+          (record { pc = c.requires.placed.pc; csrs = c.requires.placed.csrs });
+      windows = subst (All (λ r. r.window ≡ window_of guest)) (sym none)
+          (All-nil (λ r. r.window ≡ window_of guest));
       few = omega (arith, ap length none);
       taken = omega (arith, ap length none);
       elsewhere = same_elsewhere (host_end guest) first;
@@ -30,7 +37,8 @@ loop-made-init g c =
     }
 
 pub lone_step-requires-clause-placed : goal.lone_step-requires-clause-placed
-lone_step-requires-clause-placed g c = subst (IsPlaced c.args.self.now) (sym c.loop-made.invariant.elsewhere.size) c.requires.placed
+lone_step-requires-clause-placed g c =
+    subst (IsPlaced c.args.self.now) (sym c.loop-made.invariant.elsewhere.size) c.requires.placed
 
 pub loop-made-preserved : goal.loop-made-preserved
 loop-made-preserved g c =
@@ -42,14 +50,23 @@ loop-made-preserved g c =
     let step = c.lone_step.ensures in
     let r = regs_of before.hart in
     record {
-      turning = turning_goes_on guest c.args.time first r (regs_of after.hart) before.mem after.mem c.lone_step.result step.stepped
-          c.loop-made._made c.loop-made-test.true (trail_of before.hart) (trail_of after.hart) inv.turning step.trail c.in-Started.is;
+      turning = turning_goes_on guest c.args.time first r (regs_of after.hart) before.mem after.mem
+          c.lone_step.result step.stepped
+          c.loop-made._made c.loop-made-test.true (trail_of before.hart) (trail_of after.hart)
+          inv.turning step.trail c.in-Started.is;
       on = step.on;
       formed = step.formed;
-      windows = subst (All (λ r. r.window ≡ window_of guest)) (sym step.trail.grown) (All-append (λ r. r.window ≡ window_of guest) (trail_of before.hart) step.trail.piece inv.windows step.trail.window);
-      few = omega (arith, piece_few guest r (trail_of before.hart) (trail_of after.hart) step.trail, inv.few);
+      windows = subst (All (λ r. r.window ≡ window_of guest)) (sym step.trail.grown)
+          (All-append (λ r. r.window ≡ window_of guest) (trail_of before.hart) step.trail.piece
+          inv.windows step.trail.window);
+      few = omega (
+        arith,
+        piece_few guest r (trail_of before.hart) (trail_of after.hart) step.trail,
+        inv.few,
+      );
       taken = omega (arith, step.taken, inv.taken);
-      elsewhere = elsewhere_both (host_end guest) first before.mem after.mem inv.elsewhere step.elsewhere;
+      elsewhere = elsewhere_both (host_end guest) first before.mem after.mem inv.elsewhere
+          step.elsewhere;
       area = step.area ∙ inv.area;
       fit = step.room ∙ inv.fit;
     }
@@ -64,13 +81,23 @@ returns-in_default g c =
     let step = c.lone_step.ensures in
     let r = regs_of before.hart in
     record {
-      turn = turning_stops guest c.args.time first r (regs_of after.hart) before.mem after.mem c.lone_step.result step.stepped
-          c.loop-made._made c.loop-made-test.true (trail_of before.hart) (trail_of after.hart) inv.turning step.trail c.in_default.not-Started;
+      turn = turning_stops guest c.args.time first r (regs_of after.hart) before.mem after.mem
+          c.lone_step.result step.stepped
+          c.loop-made._made c.loop-made-test.true (trail_of before.hart) (trail_of after.hart)
+          inv.turning step.trail c.in_default.not-Started;
       formed = step.formed;
-      window = subst (All (λ r. r.window ≡ window_of guest)) (sym step.trail.grown) (All-append (λ r. r.window ≡ window_of guest) (trail_of before.hart) step.trail.piece inv.windows step.trail.window);
+      window = subst (All (λ r. r.window ≡ window_of guest)) (sym step.trail.grown)
+          (All-append (λ r. r.window ≡ window_of guest) (trail_of before.hart) step.trail.piece
+          inv.windows step.trail.window);
       taken = omega (arith, step.taken, inv.taken);
-      few = omega (arith, piece_few guest r (trail_of before.hart) (trail_of after.hart) step.trail, inv.few, c.loop-made-test.true);
-      elsewhere = elsewhere_both (host_end guest) first before.mem after.mem inv.elsewhere step.elsewhere;
+      few = omega (
+        arith,
+        piece_few guest r (trail_of before.hart) (trail_of after.hart) step.trail,
+        inv.few,
+        c.loop-made-test.true,
+      );
+      elsewhere = elsewhere_both (host_end guest) first before.mem after.mem inv.elsewhere
+          step.elsewhere;
       area = step.area ∙ inv.area;
       fit = step.room ∙ inv.fit;
     }
@@ -79,4 +106,5 @@ pub returns-clause-turn : goal.returns-clause-turn
 returns-clause-turn g c =
     let inv = c.loop-made.invariant in
     let now = c.loop-made.machine in
-    turning_ends c.args.self.now c.args.time c.args.machine.now.mem c.loop-made._made (regs_of now.hart) now.mem (trail_of now.hart) c.loop-made-test.false inv.turning
+    turning_ends c.args.self.now c.args.time c.args.machine.now.mem c.loop-made._made
+    (regs_of now.hart) now.mem (trail_of now.hart) c.loop-made-test.false inv.turning

@@ -12,7 +12,8 @@ abbrev pub invariant-loop-made : goal.invariant-loop-made
 invariant-loop-made g l =
     let hart = l.machine.hart in
     record {
-      turning : IsTurning l.self l.time l.fn.machine.mem l._made (regs_of hart) l.machine.mem (trail_of hart);
+      turning : IsTurning l.self l.time l.fn.machine.mem l._made (regs_of hart) l.machine.mem
+          (trail_of hart);
       on : IsOnHart l.self l.time (regs_of hart);
       formed : IsWellFormed (regs_of hart);
       windows : All (λ r. r.window ≡ window_of l.self) (trail_of hart);

@@ -13,7 +13,11 @@ returns-in-Flat-clause-work g c =
 pub returns-in-Poke-clause-work : goal.returns-in-Poke-clause-work
 returns-in-Poke-clause-work g c =
     let w = world_of c.args.self.now c.args.machine.now.mem in
-    omega (arith, ap taken_by c.poke.ensures.hart, ap (λ x. (answer w x).work) c.in-Poke.is ∙ poke_work w _ _ _)
+    omega (
+      arith,
+      ap taken_by c.poke.ensures.hart,
+      ap (λ x. (answer w x).work) c.in-Poke.is ∙ poke_work w _ _ _,
+    )
 
 pub returns-in-Kick-clause-work : goal.returns-in-Kick-clause-work
 returns-in-Kick-clause-work g c =

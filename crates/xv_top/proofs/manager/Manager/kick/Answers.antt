@@ -11,7 +11,8 @@ use Rattle.xv_top.proofs.manager.Manager.kick.Goals as goal
 pub returns-in_default-clause-answer : goal.returns-in_default-clause-answer
 returns-in_default-clause-answer c bytes =
     let w = world_of c.args.self.now bytes in
-    gives_by _ _ (kick_is w c.args.name.now None (c.in_default.ensures.guest bytes)) (record { text = c.refused.ensures; world = refl })
+    gives_by _ _ (kick_is w c.args.name.now None (c.in_default.ensures.guest bytes))
+    (record { text = c.refused.ensures; world = refl })
 
 pub returns-then-not-is_reset-clause-answer : goal.returns-then-not-is_reset-clause-answer
 returns-then-not-is_reset-clause-answer c bytes =
@@ -32,5 +33,7 @@ returns-clause-answer c bytes =
     ∙ cond-true (is_reset g.state) _ _ (sym c.if-not-is_reset.ensures))
     (record {
       text = c.kicked.ensures ∙ ap kicked_text c.bytes.ensures.value;
-      world = change_one c.args.self.now g c.kick.new.self bytes bytes name Kick c.in-Some.ensures.there.0 c.in-Some.ensures.there.1 (ap (λ h. live_guest h bytes) c.kick.ensures);
+      world = change_one c.args.self.now g c.kick.new.self bytes bytes name Kick
+          c.in-Some.ensures.there.0 c.in-Some.ensures.there.1
+          (ap (λ h. live_guest h bytes) c.kick.ensures);
     })

@@ -3,13 +3,18 @@ use Rattle.xv_hart.specs.Hart.{taken_by}
 use Rattle.xv_top.specs.Guest.{SameElsewhere}
 use Rattle.xv_top.specs.Manager.{world_of, memory_end, idle_of}
 use Rattle.xv_top.proofs.GuestLemmas.{same_elsewhere, elsewhere_both}
-use Rattle.xv_top.proofs.RunLemmas.{IsKept, turns_start, kept_goes_on, turns_end, entries_end, idle_few}
+use Rattle.xv_top.proofs.RunLemmas.{IsKept, turns_start, kept_goes_on, turns_end, entries_end}
+use Rattle.xv_top.proofs.RunLemmas.{idle_few}
 use Rattle.xv_top.proofs.manager.Manager.make_turns.Goals as goal
 use Rattle.xv_top.proofs.manager.Manager.make_turns.Goals.{then-turn, else-turn}
 
 pub loop-made-init : goal.loop-made-init
 loop-made-init g c = record {
-  going = record { so_far = turns_start c.args.turns (world_of c.args.self.now c.args.machine.now.mem) (taken_by c.args.machine.now.hart); all = λ none. refl };
+  going = record {
+    so_far = turns_start c.args.turns
+        (world_of c.args.self.now c.args.machine.now.mem) (taken_by c.args.machine.now.hart);
+    all = λ none. refl;
+  };
   sound = c.requires.sound;
   fit = c.requires.fit;
   size = refl;
@@ -33,19 +38,28 @@ loop-made-preserved g c =
     let so_far = inv.going.so_far in
     let idled : c.if-turn.idle ≡ before + idle_of c.turn.result = elim c.if-turn.branch [
       | then-turn w ↦ w.idle-is ∙ ap (λ b. before + idle_of b) (sym w.if-turn.true)
-      | else-turn w ↦ w.idle-is ∙ ((let e : before ≡ before + 0 = omega arith in e) ∙ ap (λ b. before + idle_of b) (sym w.if-turn.false))
+      | else-turn w ↦
+          w.idle-is ∙ ((let e : before ≡ before + 0 = omega arith in e)
+          ∙ ap (λ b. before + idle_of b) (sym w.if-turn.false))
     ] in
-    let on = kept_goes_on c.args.turns c.loop-made._made first now after before (taken_by c.args.machine.now.hart) (taken_by c.loop-made.machine.hart) (taken_by c.turn.new.machine.hart)
-    bytes c.loop-made.machine.mem c.turn.new.machine.mem c.loop-made-test.true inv.going c.turn.result (turn.turn before so_far.work so_far.entries) turn.taken turn.kept in
+    let on = kept_goes_on c.args.turns c.loop-made._made first now after before
+    (taken_by c.args.machine.now.hart) (taken_by c.loop-made.machine.hart)
+    (taken_by c.turn.new.machine.hart)
+    bytes c.loop-made.machine.mem c.turn.new.machine.mem c.loop-made-test.true inv.going
+    c.turn.result (turn.turn before so_far.work so_far.entries) turn.taken turn.kept in
     record {
-      going = subst (λ i. IsKept c.args.turns (c.loop-made._made + 1) first after i (taken_by c.args.machine.now.hart) (taken_by c.turn.new.machine.hart) bytes c.turn.new.machine.mem) (sym idled) on;
+      going = subst (λ i. IsKept c.args.turns (c.loop-made._made + 1) first after i
+          (taken_by c.args.machine.now.hart) (taken_by c.turn.new.machine.hart) bytes
+          c.turn.new.machine.mem) (sym idled) on;
       sound = turn.sound;
       fit = turn.fit;
       size = turn.size ∙ inv.size;
       area = turn.area ∙ inv.area;
       end = turn.end ∙ inv.end;
-      outside = elsewhere_both (memory_end c.args.self.now.guest) bytes c.loop-made.machine.mem c.turn.new.machine.mem inv.outside
-          (subst (λ end. SameElsewhere end c.loop-made.machine.mem c.turn.new.machine.mem) inv.end turn.outside);
+      outside = elsewhere_both (memory_end c.args.self.now.guest) bytes c.loop-made.machine.mem
+          c.turn.new.machine.mem inv.outside
+          (subst (λ end. SameElsewhere end c.loop-made.machine.mem c.turn.new.machine.mem) inv.end
+          turn.outside);
       turns = omega (arith, turn.turns, inv.turns);
       few = omega (arith, turn.few, inv.few);
       idle = omega (arith, idled, idle_few c.turn.result, inv.idle);
@@ -53,7 +67,9 @@ loop-made-preserved g c =
 
 pub returns-clause-end : goal.returns-clause-end
 returns-clause-end g c =
-    turns_end c.args.turns c.loop-made._made (world_of c.args.self.now c.args.machine.now.mem) (world_of c.loop-made.self c.loop-made.machine.mem) c.loop-made.idle (taken_by c.args.machine.now.hart) (taken_by c.loop-made.machine.hart)
+    turns_end c.args.turns c.loop-made._made (world_of c.args.self.now c.args.machine.now.mem)
+    (world_of c.loop-made.self c.loop-made.machine.mem) c.loop-made.idle
+    (taken_by c.args.machine.now.hart) (taken_by c.loop-made.machine.hart)
     c.loop-made-test.false c.loop-made.invariant.going.so_far
 
 pub returns-clause-keeps : goal.returns-clause-keeps
@@ -62,6 +78,10 @@ returns-clause-keeps g c =
     record {
       outside = inv.outside;
       all = λ none. inv.going.all
-          (sym (entries_end c.args.turns c.loop-made._made (world_of c.args.self.now c.args.machine.now.mem) (world_of c.loop-made.self c.loop-made.machine.mem) c.loop-made.idle (taken_by c.args.machine.now.hart) (taken_by c.loop-made.machine.hart) c.loop-made-test.false inv.going.so_far)
+          (sym (entries_end c.args.turns c.loop-made._made
+          (world_of c.args.self.now c.args.machine.now.mem)
+          (world_of c.loop-made.self c.loop-made.machine.mem) c.loop-made.idle
+          (taken_by c.args.machine.now.hart) (taken_by c.loop-made.machine.hart)
+          c.loop-made-test.false inv.going.so_far)
           ∙ none);
     }

@@ -8,7 +8,9 @@ use Rattle.xv_top.proofs.manager.Manager.make_turns.Given as goal
 
 abbrev pub invariant-loop-made : goal.invariant-loop-made
 invariant-loop-made g l = record {
-  going : IsKept l.turns l._made (world_of l.fn.self l.fn.machine.mem) (world_of l.self l.machine.mem) l.idle (taken_by l.fn.machine.hart) (taken_by l.machine.hart) l.fn.machine.mem l.machine.mem;
+  going : IsKept l.turns l._made (world_of l.fn.self l.fn.machine.mem)
+      (world_of l.self l.machine.mem) l.idle (taken_by l.fn.machine.hart) (taken_by l.machine.hart)
+      l.fn.machine.mem l.machine.mem;
   sound : IsSound l.self l.machine.mem;
   fit : IsFit l.machine;
   size : length l.machine.mem ≡ length l.fn.machine.mem;

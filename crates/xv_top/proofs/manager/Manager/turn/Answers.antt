@@ -14,12 +14,16 @@ returns-clause-turn g c idle work earlier =
     let now = c.turn.new.machine.mem in
     let guest = c.in-Some.guest in
     let w = world_of m bytes in
-    let picked : pick w ≡ Some (live_guest guest bytes) = c.next_guest.ensures.picked bytes ∙ ap (option_map (λ g. live_guest g bytes)) c.in-Some.is in
+    let picked : pick w ≡ Some (live_guest guest bytes) = c.next_guest.ensures.picked bytes
+    ∙ ap (option_map (λ g. live_guest g bytes)) c.in-Some.is in
     let whole = ap (one_turn (going w idle work earlier)) picked in
-    let count = steps_few (plan_of guest) (time_of guest m.clock) (lone_of guest bytes) (trail_of c.turn.new.machine.hart) c.turn.ensures.trail in
+    let count = steps_few (plan_of guest) (time_of guest m.clock) (lone_of guest bytes)
+    (trail_of c.turn.new.machine.hart) c.turn.ensures.trail in
     record {
       world = ap (λ r. r.world) whole
-          ∙ (sym (ap passed (turn_change m guest c.turn.new.self bytes now c.in-Some.ensures.there c.turn.ensures.others c.turn.ensures.machine))
+          ∙ (sym (ap passed
+          (turn_change m guest c.turn.new.self bytes now c.in-Some.ensures.there
+          c.turn.ensures.others c.turn.ensures.machine))
           ∙ sym (c.pass-2.ensures.world now));
       idle = ap (λ r. r.idle) whole ∙ (let e : idle ≡ idle + 0 = omega arith in e);
       work = omega (arith, ap (λ r. r.work) whole, c.turn.ensures.taken, count);
@@ -30,10 +34,12 @@ returns-clause-kept g c earlier =
     let m = c.args.self.now in
     let bytes = c.args.machine.now.mem in
     let guest = c.in-Some.guest in
-    busy_kept earlier (pick (world_of m bytes)) (live_guest guest bytes) _ (c.next_guest.ensures.picked bytes ∙ ap (option_map (λ g. live_guest g bytes)) c.in-Some.is)
+    busy_kept earlier (pick (world_of m bytes)) (live_guest guest bytes) _
+    (c.next_guest.ensures.picked bytes ∙ ap (option_map (λ g. live_guest g bytes)) c.in-Some.is)
 
 pub returns-in_default-clause-kept : goal.returns-in_default-clause-kept
 returns-in_default-clause-kept g c earlier =
     let m = c.args.self.now in
     let bytes = c.args.machine.now.mem in
-    idle_kept earlier (pick (world_of m bytes)) _ (c.next_guest.ensures.picked bytes ∙ ap (option_map (λ g. live_guest g bytes)) c.in_default.is) refl
+    idle_kept earlier (pick (world_of m bytes)) _ (c.next_guest.ensures.picked bytes
+    ∙ ap (option_map (λ g. live_guest g bytes)) c.in_default.is) refl
