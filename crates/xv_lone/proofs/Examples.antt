@@ -16,7 +16,13 @@ use Rattle.xv_step.specs.Step.{step}
 use Rattle.xv_lone.specs.declared.vcpu.VcpuView.{VcpuView}
 use Rattle.xv_lone.specs.declared.vcpu.HartState.{HartState}
 use Rattle.xv_lone.specs.declared.vcpu.HartState.TheVariants.{Started, Waiting, Suspended, Stopped}
-use Rattle.xv_lone.specs.Plan.{Plan, flat_base}
+use Rattle.xv_region.specs.declared.plan.DeviceKind.TheVariants.{Finisher}
+use Rattle.xv_region.specs.declared.plan.Kind.{Kind}
+use Rattle.xv_region.specs.declared.plan.Kind.TheVariants.{Ram, Rom, Alias, Device}
+use Rattle.xv_region.specs.declared.plan.Region.{Region}
+use Rattle.xv_region.specs.declared.plan.VcpuPlan.{VcpuPlan}
+use Rattle.xv_region.specs.Cell.{cell}
+use Rattle.xv_region.specs.Plan.{Plan, flat_base, usual_priority}
 use Rattle.xv_lone.specs.Machine.{Machine}
 use Rattle.xv_lone.specs.Step.{answered, lone_step}
 use Rattle.xv_lone.specs.declared.vcpu.TurnEnd.{TurnEnd}
@@ -25,8 +31,29 @@ use Rattle.xv_lone.specs.Ready.{is_ready}
 use Rattle.xv_lone.specs.Turn.{iterate, whole_turn, turn, visited, steps, ending}
 use Rattle.xv_lone.specs.Journal.{Entry, Born, Changed, Load, Kick, Turn, replay}
 
+region_of : (base size : ℕ) → Kind → Region
+region_of base size kind = record { name = []; base = base; size = size; kind = kind }
+
+vcpu_at : ℕ → VcpuPlan
+vcpu_at start = record { start = start; priority = usual_priority }
+
 plan : Plan
-plan = record { regions = record { base = flat_base; size = 64 } ∷ []; starts = flat_base ∷ [] }
+plan = record {
+  regions = region_of flat_base 64 Ram ∷ [];
+  vcpus = vcpu_at flat_base ∷ [];
+}
+
+-- memory that can't be written, where it starts; other memory, the same under a second address, and
+-- a device
+mixed : Plan
+mixed = record {
+  regions = region_of flat_base 64 Rom
+      ∷ region_of 0x2000_0000 64 (Alias 0x1000_0000)
+      ∷ region_of 0x1000_0000 64 Ram
+      ∷ region_of 0x100 8 (Device Finisher)
+      ∷ [];
+  vcpus = vcpu_at flat_base ∷ [];
+}
 
 bytes_of : ℕ → ℕ → List ℕ
 bytes_of zero n = []
@@ -67,6 +94,13 @@ shows words clocks ks = of_machine (vcpu_shows ks) (replay plan (journal words c
 traps : List ℕ → List ℕ
 traps words = of_machine vcpu_trap (replay plan (journal words (50 ∷ [])))
 
+-- the same of the mixed plan
+mixed_shows : List ℕ → List ℕ → List ℕ
+mixed_shows words ks = of_machine (vcpu_shows ks) (replay mixed (journal words (50 ∷ [])))
+
+mixed_traps : List ℕ → List ℕ
+mixed_traps words = of_machine vcpu_trap (replay mixed (journal words (50 ∷ [])))
+
 bit : Bool → ℕ
 bit true = 1
 bit false = 0
@@ -94,7 +128,7 @@ end_shows ks (Some m) = end_number (ending plan 0 0 m) ∷ steps plan 0 0 m
 
 -- two VCPUs, of which the second starts at offset 16
 pair : Plan
-pair = record plan { starts = flat_base ∷ (flat_base + 16) ∷ [] }
+pair = record plan { vcpus = vcpu_at flat_base ∷ vcpu_at (flat_base + 16) ∷ [] }
 
 -- VCPU h of the pair: whether it is ready, how its turn ends and after how many steps; and where
 -- both are then
@@ -188,10 +222,28 @@ table =
     ∷ (traps (handled 0x00003383), 5 ∷ (flat_base + 12) ∷ 0 ∷ [])
     ∷ (traps (handled 0x00003023), 7 ∷ (flat_base + 12) ∷ 0 ∷ [])
     ∷ (traps (handled 0x00000067), 1 ∷ 0 ∷ 0 ∷ [])
+    -- code in memory that can't be written, and a store there
+    ∷ (mixed_traps (handled 0x0002b823), 7 ∷ (flat_base + 12) ∷ (flat_base + 32) ∷ [])
+    -- a load and a store of a device that nothing answers yet, and a fetch from a hole
+    ∷ (mixed_traps (handled 0x10002383), 5 ∷ (flat_base + 12) ∷ 0x100 ∷ [])
+    ∷ (mixed_traps (handled 0x10702023), 7 ∷ (flat_base + 12) ∷ 0x100 ∷ [])
+    ∷ (mixed_traps (handled 0x00000067), 1 ∷ 0 ∷ 0 ∷ [])
+    -- LR.D under the second address and SC.D under the first, and the other way round: each is a
+    -- reservation of the one place, and what is stored is seen under both
+    ∷ (
+      mixed_shows (0x200002b7 ∷ 0x10000337 ∷ 0x1002b3af ∷ 0x1863342f ∷ 0x0002b483 ∷ 0x10500073 ∷ [])
+          (8 ∷ 9 ∷ []),
+      1 ∷ 24 ∷ 0 ∷ 0x1000_0000 ∷ [],
+    )
+    ∷ (
+      mixed_shows (0x200002b7 ∷ 0x10000337 ∷ 0x100333af ∷ 0x1862b42f ∷ 0x00033483 ∷ 0x10500073 ∷ [])
+          (8 ∷ 9 ∷ []),
+      1 ∷ 24 ∷ 0 ∷ 0x1000_0000 ∷ [],
+    )
     ∷ []
 
 the_rows : map (λ r. r.0) table ≡ map (λ r. r.1) table
-unfolding plan bytes_of memory_of journal hart_number vcpu_shows vcpu_trap of_machine shows traps
+unfolding region_of vcpu_at plan mixed mixed_shows mixed_traps cell bytes_of memory_of journal hart_number vcpu_shows vcpu_trap of_machine shows traps
     bit end_number turn_shows end_shows pair pair_shows at_x5 handled table replay ending visited
     answered steps turn whole_turn iterate lone_step step word_at put put_word decode_of row_of rows
     form_of operation_at effect_of chosen_interrupt pending sip_of csr_read csr_written register_of

@@ -1,7 +1,8 @@
 -- What happens to a guest from outside, entry by entry. Nothing else changes its machine.
 use Rattle.std.specs.Prelude.{ℕ, List, [], ◌∷◌, ◌++◌, length, Option, Some, None, option_map}
-use Rattle.xv_lone.specs.Plan.{Plan}
-use Rattle.xv_lone.specs.Cell.{Cell, cell, store_cell}
+use Rattle.xv_step.specs.Bus.{Spot}
+use Rattle.xv_region.specs.Plan.{Plan}
+use Rattle.xv_lone.specs.Memory.{Place, spot_at, store_place}
 use Rattle.xv_lone.specs.Machine.{Machine, new_machine, guest_time, kicked}
 use Rattle.xv_lone.specs.Turn.{turn}
 
@@ -19,14 +20,14 @@ pub data Entry : Type 0 where
   Born : (clock : ℕ) → Entry
   Changed : Change → Entry
 
--- bytes at a cell, or nowhere
-abbrev pub stored_at : List ℕ → Machine → Option Cell → Machine
+-- bytes at a spot, also one that the guest can't write, or nowhere
+abbrev pub stored_at : List ℕ → Machine → Option (Spot Place) → Machine
 stored_at bytes m None = m
-stored_at bytes m (Some c) = record m { memory = store_cell m.memory c bytes }
+stored_at bytes m (Some spot) = record m { memory = store_place m.memory spot.place bytes }
 
--- bytes that don't lie in one region change nothing
+-- bytes that don't lie wholly in the memory of one region change nothing
 abbrev pub after_load : Plan → ℕ → List ℕ → Machine → Machine
-after_load plan gpa bytes m = stored_at bytes m (cell plan gpa (length bytes))
+after_load plan gpa bytes m = stored_at bytes m (spot_at plan (length bytes) gpa)
 
 -- the machine that a change makes of one
 abbrev pub after_change : Plan → Change → Machine → Machine

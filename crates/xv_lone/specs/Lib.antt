@@ -1,5 +1,4 @@
-pub mod Plan
-pub mod Cell
+pub mod Memory
 pub mod Vcpu
 pub mod Machine
 pub mod Step

@@ -1,12 +1,12 @@
 -- The lone machine: its birth, and what happens to it whole.
-use Rattle.std.specs.Prelude.{ℕ, ◌+◌, ◌-◌, ◌%◌, ◌^◌, List, map, replicate, Option, Some, None}
+use Rattle.std.specs.Prelude.{ℕ, ◌+◌, ◌-◌, ◌%◌, ◌^◌, List, map, Option, Some, None}
 use Rattle.std.specs.Prelude.{slice_get, slice_set}
 use Rattle.xv_lone.specs.declared.vcpu.VcpuView.{VcpuView}
 use Rattle.xv_lone.specs.declared.vcpu.Ending.{Ending}
 use Rattle.xv_lone.specs.declared.vcpu.GuestState.{GuestState}
 use Rattle.xv_lone.specs.declared.vcpu.GuestState.TheVariants.{Reset, Running, Halted}
-use Rattle.xv_lone.specs.Plan.{Plan}
-use Rattle.xv_lone.specs.Cell.{Memory}
+use Rattle.xv_region.specs.Plan.{Plan}
+use Rattle.xv_lone.specs.Memory.{Memory, zeros_of}
 use Rattle.xv_lone.specs.Vcpu.{reset_vcpu, kicked_vcpu}
 
 -- one guest by itself
@@ -16,11 +16,15 @@ pub record Machine : Type 0 where
   pub state : GuestState
   pub birth : ℕ
 
+-- each VCPU of a plan, with reset values
+abbrev pub reset_vcpus : Plan → List VcpuView
+reset_vcpus plan = map (λ v. reset_vcpu v.start) plan.vcpus
+
 -- a machine at its create: zeros, reset values, and the clock as its birth
 abbrev pub new_machine : Plan → ℕ → Machine
 new_machine plan clock = record {
-  memory = map (λ r. replicate r.size 0) plan.regions;
-  vcpus = map reset_vcpu plan.starts;
+  memory = map zeros_of plan.regions;
+  vcpus = reset_vcpus plan;
   state = Reset;
   birth = clock;
 }
@@ -54,4 +58,4 @@ halted ending m = record m { state = Halted ending }
 
 -- every VCPU has reset values, and the first one is started. Memory and birth stay
 abbrev pub rebooted : Plan → Machine → Machine
-rebooted plan m = kicked (record m { vcpus = map reset_vcpu plan.starts })
+rebooted plan m = kicked (record m { vcpus = reset_vcpus plan })

@@ -17,22 +17,22 @@ use Rattle.xv_lone.specs.declared.vcpu.Ending.{Ending}
 use Rattle.xv_lone.specs.declared.vcpu.VcpuView.{VcpuView}
 use Rattle.xv_lone.specs.declared.vcpu.HartState.{HartState}
 use Rattle.xv_lone.specs.declared.vcpu.HartState.TheVariants.{Started, Waiting, Stopped}
-use Rattle.xv_lone.specs.Plan.{Plan}
-use Rattle.xv_lone.specs.Cell.{Cell, Memory, cell, load_cell, put_cell}
+use Rattle.xv_region.specs.Plan.{Plan}
+use Rattle.xv_lone.specs.Memory.{Memory, Place, spot_at, load_place, put_place}
 use Rattle.xv_lone.specs.Machine.{Machine, with_vcpu, on_vcpu, halted, rebooted}
 
 -- ---- the memory of a lone hart
 
-abbrev pub same_cell : Cell → Cell → Bool
-same_cell c d = c.region == d.region && c.offset == d.offset
+abbrev pub same_place : Place → Place → Bool
+same_place one other = one.region == other.region && one.offset == other.offset
 
--- a place is a cell of the plan. Every region is memory that may be written
-abbrev pub lone_bus : Plan → Bus Memory Cell
+-- what the plan's regions have at an address, of an alias those of the region that it names
+abbrev pub lone_bus : Plan → Bus Memory Place
 lone_bus plan = record {
-  find = λ width gpa. option_map (λ c. record { place = c; writable = true }) (cell plan gpa width);
-  get = λ memory width c. load_cell memory c width;
-  put = λ memory width c value. put_cell memory c width value;
-  same = same_cell;
+  find = spot_at plan;
+  get = λ memory width p. load_place memory p width;
+  put = λ memory width p value. put_place memory p width value;
+  same = same_place;
 }
 
 -- ---- what comes from outside, at guest time t, for VCPU h of a machine, which is v now
@@ -53,7 +53,7 @@ inputs_at h t m v = record { lines = lines_at h t m v; time = t }
 -- a machine one of whose VCPUs is on the hart, and the reservation of that VCPU
 pub record OnHart : Type 0 where
   pub machine : Machine
-  pub held : Option (Held Cell)
+  pub held : Option (Held Place)
 
 -- how a turn goes on after a lone step, where its VCPU may
 pub data Onward : Type 0 where
@@ -66,7 +66,7 @@ pub record After : Type 0 where
   pub onward : Onward
 
 -- the VCPU, as a hart over the machine's memory
-abbrev pub hart_of : OnHart → VcpuView → State Memory Cell
+abbrev pub hart_of : OnHart → VcpuView → State Memory Place
 hart_of r v =
     record {
       x = v.x;
@@ -78,20 +78,20 @@ hart_of r v =
     }
 
 -- and the VCPU that such a hart is, in a hart state
-abbrev pub vcpu_of : State Memory Cell → HartState → VcpuView → VcpuView
+abbrev pub vcpu_of : State Memory Place → HartState → VcpuView → VcpuView
 vcpu_of s hart v = record v { x = s.x; pc = s.pc; user = s.user; csrs = s.csrs; hart = hart }
 
 -- ---- how a lone step goes on
 
 module _ (h : ℕ) (r : OnHart) (v : VcpuView) where
   -- the hart is put back into the machine as VCPU h
-  abbrev pub put_back : State Memory Cell → HartState → OnHart
+  abbrev pub put_back : State Memory Place → HartState → OnHart
   put_back s hart = record {
     machine = with_vcpu h (vcpu_of s hart v) (record r.machine { memory = s.memory });
     held = s.held;
   }
 
-  abbrev pub goes_on : State Memory Cell → HartState → After
+  abbrev pub goes_on : State Memory Place → HartState → After
   goes_on s hart = record { on_hart = put_back s hart; onward = On }
 
   -- an exception is taken
@@ -99,7 +99,7 @@ module _ (h : ℕ) (r : OnHart) (v : VcpuView) where
   traps cause tval = goes_on (trapped cause tval (hart_of r v)) Started
 
   -- the guest halts, and the VCPU is as the step leaves it
-  abbrev pub halts : Ending → State Memory Cell → After
+  abbrev pub halts : Ending → State Memory Place → After
   halts ending s =
       let last = put_back s Started in
       record { on_hart = record last { machine = halted ending last.machine }; onward = Halts }
@@ -174,7 +174,7 @@ module _ (plan : Plan) (h t : ℕ) (r : OnHart) (v : VcpuView) where
   answered (Call next) = calls next
   answered (Wait next) = waits next
 
-  abbrev pub after : Outcome Memory Cell → After
+  abbrev pub after : Outcome Memory Place → After
   after (Went s) = goes_on h r v s Started
   after (Raised cause tval) = traps h r v cause tval
   after (Left ask) = answered ask

@@ -7,7 +7,7 @@ use Rattle.xv_lone.specs.declared.vcpu.HartState.{HartState}
 use Rattle.xv_lone.specs.declared.vcpu.HartState.TheVariants.{Started, Waiting, Suspended, Stopped}
 use Rattle.xv_lone.specs.declared.vcpu.TurnEnd.{TurnEnd}
 use Rattle.xv_lone.specs.declared.vcpu.TurnEnd.TheVariants.{Spent, Waits, Stops, Halted, Rebooted}
-use Rattle.xv_lone.specs.Plan.{Plan}
+use Rattle.xv_region.specs.Plan.{Plan}
 use Rattle.xv_lone.specs.Machine.{Machine, on_vcpu}
 use Rattle.xv_lone.specs.Step.{OnHart, Onward, On, Halts, Reboots, After, lone_step}
 

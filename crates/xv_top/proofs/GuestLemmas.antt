@@ -11,13 +11,16 @@ use Rattle.xv_mem.proofs.Words.{length-put_word}
 use Rattle.xv_step.specs.Bus.{Spot}
 use Rattle.xv_step.proofs.BusLemmas.{AreJoined, Nothing}
 use Rattle.xv_hart.specs.Window.{window_bus, host_of}
-use Rattle.xv_lone.specs.Plan.{flat, flat_base}
+use Rattle.xv_region.specs.Plan.{flat, flat_base}
 use Rattle.xv_lone.specs.Machine.{Machine}
-use Rattle.xv_lone.specs.Cell.{Cell, Memory, cell}
+use Rattle.xv_region.specs.declared.cell.Cell.{Cell}
+use Rattle.xv_region.specs.declared.cell.Cell.TheVariants as cells
+use Rattle.xv_region.specs.Cell.{cell}
+use Rattle.xv_lone.specs.Memory.{Memory, Place, spot_at, spot_of}
 use Rattle.xv_lone.specs.Step.{lone_bus}
 use Rattle.xv_lone.specs.Journal.{after_load, stored_at}
 use Rattle.xv_top.specs.declared.guest.Guest.{Guest}
-use Rattle.xv_top.specs.Guest.{lone_of, host_end, window_of, cell_at, SameElsewhere}
+use Rattle.xv_top.specs.Guest.{lone_of, host_end, window_of, place_at, SameElsewhere}
 use Rattle.xv_top.specs.Layout.{host_base}
 
 -- whether n bytes at a guest physical address lie in the guest's memory
@@ -85,20 +88,19 @@ pub record StandsIn (g : Guest) (width at : ℕ) : Type 0 where
 back : (offset : ℕ) → offset ≡ host_base + offset - host_base
 back offset = omega arith
 
-abbrev lone_spot : Cell → Spot Cell
-lone_spot c = record { place = c; writable = true }
-
 abbrev host_spot : ℕ → Spot ℕ
 host_spot at = record { place = at; writable = true }
 
-abbrev seen_spot : Spot ℕ → Spot Cell
-seen_spot spot = record { place = cell_at spot.place; writable = spot.writable }
+abbrev seen_spot : Spot ℕ → Spot Place
+seen_spot spot = record { place = place_at spot.place; writable = spot.writable }
 
-found_same : (b : Bool) (offset : ℕ)
-    → option_map lone_spot (cond b (Some (record { region = 0; offset = offset })) None)
+-- what the one region has at an offset, where the bytes lie in it
+abbrev offset_cell : Bool → ℕ → Cell
+offset_cell b offset = cond b (cells.Memory 0 offset true) cells.Nothing
+
+found_same : (b : Bool) (offset : ℕ) → spot_of (offset_cell b offset)
     ≡ option_map seen_spot (option_map host_spot (cond b (Some (host_base + offset)) None))
-found_same true offset =
-    ap (λ n. Some (lone_spot (record { region = 0; offset = n }))) (back offset)
+found_same true offset = ap (λ n. spot_of (cells.Memory 0 n true)) (back offset)
 found_same false offset = refl
 
 spot_found : (b : Bool) (at : ℕ) (spot : Spot ℕ)
@@ -110,8 +112,9 @@ spot_found true at spot e = (refl, some_place e)
 spot_found false at spot e = cc
 
 pub joined : (g : Guest) (first : List ℕ)
-    → AreJoined (lone_bus (flat g.pages)) (window_bus (window_of g)) (seen_memory g) cell_at
+    → AreJoined (lone_bus (flat g.pages)) (window_bus (window_of g)) (seen_memory g) place_at
     (IsGoodFor g first) (StandsIn g) Nothing
+unfolding cell
 joined g first = record {
   find = λ width gpa access. inl (found_same (within g gpa width) (gpa - flat_base));
   stands = λ width gpa spot access found.
@@ -151,12 +154,12 @@ found_there false x y e = cc
 pub same_load : (g : Guest) (mem bytes : List ℕ) (gpa at : ℕ)
     → host_base + 4096 * g.pages ≤ length mem → host_of (window_of g) (length bytes) gpa ≡ Some at
     → lone_of g (put mem at bytes) ≡ after_load (flat g.pages) gpa bytes (lone_of g mem)
+unfolding cell
 same_load g mem bytes gpa at fits found =
     let offset : ℕ = gpa - flat_base in
     let there = found_there (within g gpa (length bytes)) (host_base + offset) at found in
     let stored : Bool → Machine =
-    λ b. stored_at bytes (lone_of g mem)
-    (cond b (Some (record { region = 0; offset = offset })) None) in
+    λ b. stored_at bytes (lone_of g mem) (spot_of (offset_cell b offset)) in
     ap (λ a. lone_of g (put mem a bytes)) (sym there.1)
     ∙ (ap (λ r. record (lone_of g mem) { memory = r ∷ [] })
     (range-put_inside mem host_base (4096 * g.pages) offset bytes
@@ -181,23 +184,22 @@ load_elsewhere g mem bytes gpa at fits found =
           (omega (arith, fits)) (inr last);
     }
 
--- where the window leads, the bytes have a cell
+-- where the window leads, the bytes are memory
 pub some_load : (g : Guest) (gpa n at : ℕ) → host_of (window_of g) n gpa ≡ Some at
-    → is_some (cell (flat g.pages) gpa n) ≡ true
+    → is_some (spot_at (flat g.pages) n gpa) ≡ true
+unfolding cell
 some_load g gpa n at found =
-    let test : Bool → Option Cell =
-    λ b. cond b (Some (record { region = 0; offset = gpa - flat_base })) None in
-    ap (λ b. is_some (test b))
+    ap (λ b. is_some (spot_of (offset_cell b (gpa - flat_base))))
     (found_there (within g gpa n) (host_base + (gpa - flat_base)) at found).0
 
--- where the window leads nowhere, the bytes have no cell
+-- where the window leads nowhere, they are not
 pub no_load : (g : Guest) (gpa n : ℕ) → host_of (window_of g) n gpa ≡ None
-    → cell (flat g.pages) gpa n ≡ None
+    → spot_at (flat g.pages) n gpa ≡ None
+unfolding cell
 no_load g gpa n none =
-    nowhere (within g gpa n) (host_base + (gpa - flat_base))
-    (record { region = 0; offset = gpa - flat_base }) none
+    nowhere (within g gpa n) (host_base + (gpa - flat_base)) (gpa - flat_base) none
   where
-    nowhere : {A B : Type 0} (b : Bool) (x : A) (y : B) → cond b (Some x) None ≡ None
-        → cond b (Some y) None ≡ None
-    nowhere true x y e = cc
-    nowhere false x y e = refl
+    nowhere : {A : Type 0} (b : Bool) (x : A) (offset : ℕ) → cond b (Some x) None ≡ None
+        → spot_of (offset_cell b offset) ≡ None
+    nowhere true x offset e = cc
+    nowhere false x offset e = refl

@@ -7,8 +7,10 @@ use Rattle.std.proofs.lemmas.Bool.{cond_both, cond-true, cond-false, ltb-false}
 use Rattle.std.proofs.lemmas.List.{append-nil, append_assoc}
 use Rattle.std.proofs.lemmas.Slice.Eq.{bytes_eq-Decides}
 use Rattle.xv_lone.specs.declared.vcpu.VcpuView.{VcpuView}
-use Rattle.xv_lone.specs.Plan.{Plan, flat, need}
-use Rattle.xv_lone.specs.Cell.{Cell, cell}
+use Rattle.xv_region.specs.Need.{need}
+use Rattle.xv_region.specs.Plan.{Plan, flat}
+use Rattle.xv_step.specs.Bus.{Spot}
+use Rattle.xv_lone.specs.Memory.{Place, spot_at}
 use Rattle.xv_lone.specs.Machine.{Machine, new_machine}
 use Rattle.xv_lone.specs.Journal.{Entry, Born, Changed, Change, Load, Kick, after_change}
 use Rattle.xv_lone.specs.Journal.{after_entry, extended, replay, replay_from}
@@ -134,8 +136,8 @@ module _ (es : List GuestEntry) (w : World) (h : AreReplayed es w.guests) where
       (λ _. same_replayed (refused w (codes "used")) refl refl)
       (λ _. cond_both (ltb 0 (length w.guests)) _ _ (AnswerReplayed es)
       (λ _. same_replayed (refused w (codes "unbuilt")) refl refl)
-      (λ alone. cond_both (ltb (free w) (need (flat pages))) _ _ (AnswerReplayed es)
-      (λ _. same_replayed (says w (frames_text (need (flat pages)) (free w))) refl refl)
+      (λ alone. cond_both (ltb (free w) (need (flat pages).regions)) _ _ (AnswerReplayed es)
+      (λ _. same_replayed (says w (frames_text (need (flat pages).regions) (free w))) refl refl)
       (λ _. made w.guests alone)))
     where
       made : (gs : List LiveGuest) → ltb 0 (length gs) ≡ false
@@ -152,12 +154,12 @@ module _ (es : List GuestEntry) (w : World) (h : AreReplayed es w.guests) where
       → AnswerReplayed es (poke_guest w name gpa bytes o)
   poke_replayed name gpa bytes None = same_replayed (refused w (codes "guest")) refl refl
   poke_replayed name gpa bytes (Some g) =
-      cond_both _ _ _ (AnswerReplayed es) (λ _. at_cell (cell g.plan gpa (length bytes)))
+      cond_both _ _ _ (AnswerReplayed es) (λ _. at_spot (spot_at g.plan (length bytes) gpa))
       (λ _. same_replayed (refused w (codes "state")) refl refl)
     where
-      at_cell : (o : Option Cell) → AnswerReplayed es (poke_at w name gpa bytes o)
-      at_cell None = same_replayed (refused w (codes "outside")) refl refl
-      at_cell (Some c) = all_replayed name (Load gpa bytes) es w.guests h
+      at_spot : (o : Option (Spot Place)) → AnswerReplayed es (poke_at w name gpa bytes o)
+      at_spot None = same_replayed (refused w (codes "outside")) refl refl
+      at_spot (Some c) = all_replayed name (Load gpa bytes) es w.guests h
 
   kick_replayed : (name : List ℕ) (o : Option LiveGuest) → AnswerReplayed es (kick_guest w name o)
   kick_replayed name None = same_replayed (refused w (codes "guest")) refl refl

@@ -8,8 +8,10 @@ use Rattle.std.proofs.lemmas.Bool.{cond-true}
 use Rattle.xv_mem.specs.Bytes.{range}
 use Rattle.xv_mem.proofs.Puts.{range-replicate}
 use Rattle.xv_lone.specs.declared.vcpu.VcpuView.{VcpuView}
-use Rattle.xv_lone.specs.Plan.{flat, need}
-use Rattle.xv_lone.specs.Cell.{Cell, cell}
+use Rattle.xv_region.specs.Need.{need}
+use Rattle.xv_region.specs.Plan.{flat}
+use Rattle.xv_step.specs.Bus.{Spot}
+use Rattle.xv_lone.specs.Memory.{Place, spot_at}
 use Rattle.xv_lone.specs.Machine.{guest_time}
 use Rattle.xv_lone.specs.Ready as ready
 use Rattle.xv_lone.specs.Journal.{Change, Load, after_change}
@@ -114,13 +116,13 @@ abbrev pub no_guest : Manager → World
 no_guest m = record { pool = m.pool; clock = m.clock; tick = m.tick; turns = m.turns; guests = [] }
 
 abbrev pub no_frames : Manager → ℕ → Answer
-no_frames m pages = says (no_guest m) (frames_text (need (flat pages)) m.pool)
+no_frames m pages = says (no_guest m) (frames_text (need (flat pages).regions) m.pool)
 
 sub_zero : (n : ℕ) → n - 0 ≡ n
 sub_zero n = omega arith
 
 pub flat_alone : (m : Manager) (bytes name : List ℕ) (pages : ℕ) → m.guest ≡ None
-    → flat_answer (world_of m bytes) name pages ≡ cond (ltb m.pool (need (flat pages)))
+    → flat_answer (world_of m bytes) name pages ≡ cond (ltb m.pool (need (flat pages).regions))
     (no_frames m pages) (created (no_guest m) name (flat pages))
 flat_alone m bytes name pages none =
     ap (λ o. flat_answer
@@ -131,8 +133,8 @@ flat_alone m bytes name pages none =
       turns = m.turns;
       guests = guests_of o bytes;
     }) name pages) none
-    ∙ ap (λ f. cond (ltb f (need (flat pages)))
-    (says (no_guest m) (frames_text (need (flat pages)) f))
+    ∙ ap (λ f. cond (ltb f (need (flat pages).regions))
+    (says (no_guest m) (frames_text (need (flat pages).regions) f))
     (created (no_guest m) name (flat pages))) (sub_zero m.pool)
 
 -- a new guest's memory is zeros, since all host memory is
@@ -152,8 +154,8 @@ born m bytes name pages zeros fits =
     ap born_with (ap (λ b. range b host_base (4096 * pages)) zeros
     ∙ range-replicate (length bytes) host_base (4096 * pages) fits)
 
--- bytes that have a cell are poked
-pub poke_at_some : (w : World) (name : List ℕ) (gpa : ℕ) (bytes : List ℕ) (o : Option Cell)
+-- bytes that are memory are poked
+pub poke_at_some : (w : World) (name : List ℕ) (gpa : ℕ) (bytes : List ℕ) (o : Option (Spot Place))
     → is_some o ≡ true → poke_at w name gpa bytes o
     ≡ changes w name (Load gpa bytes) (poked_text name (length bytes))
 poke_at_some w name gpa bytes None h = cc
@@ -165,7 +167,7 @@ unfolding answer
 flat_work w name pages =
     by_cond (is_some (guest_named name w)) _ _ refl
     (by_cond (ltb 0 (length w.guests)) _ _ refl
-    (by_cond (ltb (free w) (need (flat pages))) _ _ refl refl))
+    (by_cond (ltb (free w) (need (flat pages).regions)) _ _ refl refl))
   where
     by_cond : (b : Bool) (x y : Answer) → x.work ≡ 0 → y.work ≡ 0 → (cond b x y).work ≡ 0
     by_cond true x y left right = left
@@ -176,18 +178,18 @@ pub poke_work : (w : World) (name : List ℕ) (gpa : ℕ) (bytes : List ℕ)
 unfolding answer
 poke_work w name gpa bytes = by_guest (guest_named name w)
   where
-    by_cell : (o : Option Cell) → (poke_at w name gpa bytes o).work ≡ 0
-    by_cell None = refl
-    by_cell (Some c) = refl
+    by_spot : (o : Option (Spot Place)) → (poke_at w name gpa bytes o).work ≡ 0
+    by_spot None = refl
+    by_spot (Some c) = refl
 
-    by_state : (b : Bool) (o : Option Cell)
+    by_state : (b : Bool) (o : Option (Spot Place))
         → (cond b (poke_at w name gpa bytes o) (refused w (codes "state"))).work ≡ 0
-    by_state true o = by_cell o
+    by_state true o = by_spot o
     by_state false o = refl
 
     by_guest : (o : Option LiveGuest) → (poke_guest w name gpa bytes o).work ≡ 0
     by_guest None = refl
-    by_guest (Some g) = by_state (is_reset g.machine.state) (cell g.plan gpa (length bytes))
+    by_guest (Some g) = by_state (is_reset g.machine.state) (spot_at g.plan (length bytes) gpa)
 
 pub kick_work : (w : World) (name : List ℕ) → (answer w (Kick name)).work ≡ 0
 unfolding answer

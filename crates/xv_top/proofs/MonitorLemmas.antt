@@ -11,7 +11,7 @@ use Rattle.xv_step.proofs.NextLemmas.{AsksNext}
 use Rattle.xv_hart.specs.declared.exit.HTrap.{HTrap}
 use Rattle.xv_hart.specs.Step.{trap_of, fault_trap, entry_read}
 use Rattle.xv_lone.specs.declared.vcpu.VcpuView.{VcpuView}
-use Rattle.xv_lone.specs.Plan.{Plan}
+use Rattle.xv_region.specs.Plan.{Plan}
 use Rattle.xv_lone.specs.Step.{OnHart, answered, faults, calls, waits}
 use Rattle.xv_top.specs.Monitor.{monitored, ecall_word}
 

@@ -19,11 +19,11 @@ use Rattle.xv_hart.specs.Step.{HStep, came, exit_of, state_of, inputs_of, held_o
 use Rattle.xv_hart.specs.Step.{hart_step, trap_of, IsWellFormed}
 use Rattle.xv_lone.specs.declared.vcpu.HartState.{HartState}
 use Rattle.xv_lone.specs.declared.vcpu.HartState.TheVariants.{Started}
-use Rattle.xv_lone.specs.Cell.{Cell, Memory}
+use Rattle.xv_lone.specs.Memory.{Memory, Place}
 use Rattle.xv_lone.specs.Step as lone
 use Rattle.xv_lone.specs.Step.{After, OnHart, lone_bus, inputs_at, lines_at, hart_of, goes_on}
 use Rattle.xv_top.specs.declared.guest.Guest.{Guest}
-use Rattle.xv_top.specs.Guest.{plan_of, lone_of, host_end, window_of, cell_at, view_of, on_hart_of}
+use Rattle.xv_top.specs.Guest.{plan_of, lone_of, host_end, window_of, place_at, view_of, on_hart_of}
 use Rattle.xv_top.specs.Guest.{after_of, IsOnHart, ReservedInside, SameElsewhere}
 use Rattle.xv_top.specs.Monitor.{monitored}
 use Rattle.xv_top.proofs.GuestLemmas.{seen_memory, IsGoodFor, StandsIn, joined}
@@ -57,36 +57,36 @@ on_again g t stepped taken next on same window time held = record {
 
 module _ (g : Guest) (t : ℕ) (first : List ℕ) where
   -- a state of the hart over host bytes, as one of the lone machine
-  abbrev seen : State (List ℕ) ℕ → State Memory Cell
-  seen s = buses.seen (lone_bus (plan_of g)) (window_bus (window_of g)) (seen_memory g) cell_at
+  abbrev seen : State (List ℕ) ℕ → State Memory Place
+  seen s = buses.seen (lone_bus (plan_of g)) (window_bus (window_of g)) (seen_memory g) place_at
       (IsGoodFor g first) (StandsIn g) Nothing (joined g first) s
 
   abbrev IsGood : State (List ℕ) ℕ → Type 0
-  IsGood s = buses.IsGood (lone_bus (plan_of g)) (window_bus (window_of g)) (seen_memory g) cell_at
+  IsGood s = buses.IsGood (lone_bus (plan_of g)) (window_bus (window_of g)) (seen_memory g) place_at
       (IsGoodFor g first) (StandsIn g) Nothing (joined g first) s
 
   abbrev HeldStands : Option (Reservation ℕ) → Type 0
   HeldStands held =
-      buses.HeldStands (lone_bus (plan_of g)) (window_bus (window_of g)) (seen_memory g) cell_at
+      buses.HeldStands (lone_bus (plan_of g)) (window_bus (window_of g)) (seen_memory g) place_at
       (IsGoodFor g first) (StandsIn g) Nothing (joined g first) held
 
-  abbrev IsOne : Outcome Memory Cell → Outcome (List ℕ) ℕ → Type 0
-  IsOne a b = buses.IsOne (lone_bus (plan_of g)) (window_bus (window_of g)) (seen_memory g) cell_at
+  abbrev IsOne : Outcome Memory Place → Outcome (List ℕ) ℕ → Type 0
+  IsOne a b = buses.IsOne (lone_bus (plan_of g)) (window_bus (window_of g)) (seen_memory g) place_at
       (IsGoodFor g first) (StandsIn g) Nothing (joined g first) a b
 
-  abbrev seen_outcome : Outcome (List ℕ) ℕ → Outcome Memory Cell
+  abbrev seen_outcome : Outcome (List ℕ) ℕ → Outcome Memory Place
   seen_outcome o =
-      buses.seen_outcome (lone_bus (plan_of g)) (window_bus (window_of g)) (seen_memory g) cell_at
+      buses.seen_outcome (lone_bus (plan_of g)) (window_bus (window_of g)) (seen_memory g) place_at
       (IsGoodFor g first) (StandsIn g) Nothing (joined g first) o
 
   abbrev LeavesGood : Outcome (List ℕ) ℕ → Type 0
   LeavesGood o =
-      buses.LeavesGood (lone_bus (plan_of g)) (window_bus (window_of g)) (seen_memory g) cell_at
+      buses.LeavesGood (lone_bus (plan_of g)) (window_bus (window_of g)) (seen_memory g) place_at
       (IsGoodFor g first) (StandsIn g) Nothing (joined g first) o
 
   abbrev IsLacking : Ask → Type 0
   IsLacking ask =
-      buses.IsLacking (lone_bus (plan_of g)) (window_bus (window_of g)) (seen_memory g) cell_at
+      buses.IsLacking (lone_bus (plan_of g)) (window_bus (window_of g)) (seen_memory g) place_at
       (IsGoodFor g first) (StandsIn g) Nothing (joined g first) ask
 
   -- what is reserved stands
@@ -106,11 +106,11 @@ module _ (g : Guest) (t : ℕ) (first : List ℕ) where
   none_lacking (Call next) lacks = lacks
   none_lacking (Wait next) lacks = lacks
 
-  record SameOutcome (of_lone : Outcome Memory Cell) (of_host : Outcome (List ℕ) ℕ) : Type 0 where
+  record SameOutcome (of_lone : Outcome Memory Place) (of_host : Outcome (List ℕ) ℕ) : Type 0 where
     same : of_lone ≡ seen_outcome of_host
     good : LeavesGood of_host
 
-  same_outcome : (of_lone : Outcome Memory Cell) (of_host : Outcome (List ℕ) ℕ)
+  same_outcome : (of_lone : Outcome Memory Place) (of_host : Outcome (List ℕ) ℕ)
       → IsOne of_lone of_host → SameOutcome of_lone of_host
   same_outcome of_lone of_host (buses.Same same good) = record { same = same; good = good }
   same_outcome of_lone of_host (buses.Asks ask is lacks) = absurd (none_lacking ask lacks)
@@ -141,7 +141,7 @@ module _ (g : Guest) (t : ℕ) (first : List ℕ) where
     one =
         subst (SameOutcome (step (lone_bus (plan_of g)) (inputs_of r) (seen s))) (sym outcome_is)
         (same_outcome (step (lone_bus (plan_of g)) (inputs_of r) (seen s)) host_outcome
-        (buses.step_is_one (lone_bus (plan_of g)) (window_bus (window_of g)) (seen_memory g) cell_at
+        (buses.step_is_one (lone_bus (plan_of g)) (window_bus (window_of g)) (seen_memory g) place_at
         (IsGoodFor g first) (StandsIn g) Nothing (joined g first) s good
         (inputs_of r) formed.pc))
 

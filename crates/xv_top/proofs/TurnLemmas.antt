@@ -7,7 +7,7 @@ use Rattle.std.proofs.lemmas.List.{length-append}
 use Rattle.xv_hart.specs.declared.regs.Regs.{Regs}
 use Rattle.xv_lone.specs.declared.vcpu.HartState.{HartState}
 use Rattle.xv_lone.specs.declared.vcpu.HartState.TheVariants.{Started, Waiting, Suspended, Stopped}
-use Rattle.xv_lone.specs.Plan.{Plan}
+use Rattle.xv_region.specs.Plan.{Plan}
 use Rattle.xv_lone.specs.Machine.{Machine}
 use Rattle.xv_lone.specs.Ready.{may_run}
 use Rattle.xv_lone.specs.Step.{On, lone_step, stepped}

@@ -2,8 +2,10 @@
 use Rattle.std.specs.Prelude.{ℕ, ◌+◌, nat_lt, if◌then◌else◌, List, [], ◌∷◌, ◌++◌, length, Option}
 use Rattle.std.specs.Prelude.{Some, None, is_some, slice_get, codes}
 use Rattle.xv_lone.specs.declared.vcpu.VcpuView.{VcpuView}
-use Rattle.xv_lone.specs.Plan.{Plan, flat, need}
-use Rattle.xv_lone.specs.Cell.{Cell, cell}
+use Rattle.xv_region.specs.Need.{need}
+use Rattle.xv_region.specs.Plan.{Plan, flat}
+use Rattle.xv_step.specs.Bus.{Spot}
+use Rattle.xv_lone.specs.Memory.{Place, spot_at}
 use Rattle.xv_lone.specs.Machine.{new_machine}
 use Rattle.xv_lone.specs.Ready.{is_reset}
 use Rattle.xv_lone.specs.Journal.{Born, Change, Load, Kick}
@@ -41,7 +43,7 @@ changes w name change text = record {
 -- a guest of this plan is born
 abbrev pub created : World → List ℕ → Plan → Answer
 created w name plan = record {
-  text = created_text name (length plan.starts) (length plan.regions) (need plan);
+  text = created_text name (length plan.vcpus) (length plan.regions) (need plan.regions);
   world = record w {
     guests = w.guests
         ++ record { name = name; plan = plan; machine = new_machine plan w.clock } ∷ [];
@@ -55,12 +57,12 @@ abbrev pub flat_answer : World → List ℕ → ℕ → Answer
 flat_answer w name pages =
     if is_some (guest_named name w) then refused w (codes "used")
     else (if nat_lt 0 (length w.guests) then refused w (codes "unbuilt")
-    else (if nat_lt (free w) (need (flat pages))
-    then says w (frames_text (need (flat pages)) (free w))
+    else (if nat_lt (free w) (need (flat pages).regions)
+    then says w (frames_text (need (flat pages).regions) (free w))
     else created w name (flat pages)))
 
--- bytes for a guest physical address, which is a cell or none
-abbrev pub poke_at : World → List ℕ → ℕ → List ℕ → Option Cell → Answer
+-- bytes for a guest physical address, which are memory or not
+abbrev pub poke_at : World → List ℕ → ℕ → List ℕ → Option (Spot Place) → Answer
 poke_at w name gpa bytes None = refused w (codes "outside")
 poke_at w name gpa bytes (Some c) = changes w name (Load gpa bytes) (poked_text name (length bytes))
 
@@ -68,7 +70,7 @@ abbrev pub poke_guest : World → List ℕ → ℕ → List ℕ → Option LiveG
 poke_guest w name gpa bytes None = refused w (codes "guest")
 poke_guest w name gpa bytes (Some g) =
     if is_reset g.machine.state
-    then poke_at w name gpa bytes (cell g.plan gpa (length bytes))
+    then poke_at w name gpa bytes (spot_at g.plan (length bytes) gpa)
     else refused w (codes "state")
 
 abbrev pub kick_guest : World → List ℕ → Option LiveGuest → Answer

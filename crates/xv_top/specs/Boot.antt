@@ -4,8 +4,8 @@ use Rattle.std.specs.Prelude.{None, option_map, codes}
 use Rattle.xv_base.specs.Fault.{Rose}
 use Rattle.xv_outside.specs.Outside.{taken_with, left_after, TookFront}
 use Rattle.xv_mem.specs.Bytes.{range}
-use Rattle.xv_lone.specs.Plan.{Region}
-use Rattle.xv_lone.specs.Cell.{Memory}
+use Rattle.xv_region.specs.declared.plan.Region.{Region}
+use Rattle.xv_lone.specs.Memory.{Memory}
 use Rattle.xv_top.specs.declared.command.Command.{Command}
 use Rattle.xv_hart.specs.declared.machine.Machine.{Machine}
 use Rattle.xv_hart.specs.Hart.{taken_by}

@@ -14,8 +14,8 @@ use Rattle.xv_lone.specs.declared.vcpu.GuestState.TheVariants.{Reset}
 use Rattle.xv_lone.specs.declared.vcpu.HartState.{HartState}
 use Rattle.xv_lone.specs.declared.vcpu.TurnEnd.{TurnEnd}
 use Rattle.xv_lone.specs.declared.vcpu.VcpuView.{VcpuView}
-use Rattle.xv_lone.specs.Plan.{Plan, flat, flat_base}
-use Rattle.xv_lone.specs.Cell.{Cell}
+use Rattle.xv_region.specs.Plan.{Plan, flat, flat_base}
+use Rattle.xv_lone.specs.Memory.{Place}
 use Rattle.xv_lone.specs.Vcpu.{reset_vcpu}
 use Rattle.xv_lone.specs.Machine.{Machine, guest_time}
 use Rattle.xv_lone.specs.Step.{OnHart, After, On, lines_at}
@@ -82,15 +82,15 @@ core_of r = record { x = r.x; pc = r.pc; user = r.user; csrs = r.csrs }
 abbrev pub view_of : Guest → Regs → HartState → VcpuView
 view_of g r state = record g.view { x = r.x; pc = r.pc; user = r.user; csrs = r.csrs; hart = state }
 
--- a host address of the guest's memory, as a cell
-abbrev pub cell_at : ℕ → Cell
-cell_at at = record { region = 0; offset = at - host_base }
+-- a host address of the guest's memory, as a place in that
+abbrev pub place_at : ℕ → Place
+place_at at = record { region = 0; offset = at - host_base }
 
 -- the guest's lone machine while its VCPU is on the hart, by what the hart shows
 abbrev pub on_hart_of : Guest → Regs → List ℕ → HartState → OnHart
 on_hart_of g r bytes state = record {
   machine = lone_of (record g { view = view_of g r state }) bytes;
-  held = held_as cell_at (held_of r.held);
+  held = held_as place_at (held_of r.held);
 }
 
 -- and after a lone step

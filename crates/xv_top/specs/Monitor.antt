@@ -8,7 +8,7 @@ use Rattle.xv_pte.specs.declared.access.Kind3.TheVariants.{Fetch, Load, Store}
 use Rattle.xv_pte.specs.declared.access.Kind3.{Kind3}
 use Rattle.xv_hart.specs.declared.exit.HTrap.{HTrap}
 use Rattle.xv_lone.specs.declared.vcpu.VcpuView.{VcpuView}
-use Rattle.xv_lone.specs.Plan.{Plan}
+use Rattle.xv_region.specs.Plan.{Plan}
 use Rattle.xv_lone.specs.Step.{OnHart, After, calls, waits, faults}
 
 -- the word of ECALL

@@ -3,7 +3,8 @@
 use Rattle.std.specs.Prelude.{ℕ, zero, suc, ◌+◌, ◌-◌, ◌%◌, ◌^◌, Bool, if◌then◌else◌, List, [], ◌∷◌}
 use Rattle.std.specs.Prelude.{◌++◌, map, find, sum_by, Option, Some, None}
 use Rattle.std.specs.Str.{bytes_eq}
-use Rattle.xv_lone.specs.Plan.{Plan, need}
+use Rattle.xv_region.specs.Need.{need}
+use Rattle.xv_region.specs.Plan.{Plan}
 use Rattle.xv_lone.specs.Machine.{Machine, guest_time}
 use Rattle.xv_lone.specs.Ready as ready
 use Rattle.xv_lone.specs.Turn.{steps}
@@ -29,7 +30,7 @@ first_world pool = record { pool = pool; clock = 0; tick = 100; turns = 0; guest
 
 -- the frames that no guest has
 abbrev pub free : World → ℕ
-free w = w.pool - sum_by (λ g. need g.plan) w.guests
+free w = w.pool - sum_by (λ g. need g.plan.regions) w.guests
 
 -- the live guest of that name
 abbrev pub guest_named : List ℕ → World → Option LiveGuest

@@ -1,6 +1,7 @@
 //! How many frames of host memory a guest takes.
 ghost use Rattle.std.specs.Prelude.{◌≡◌, ◌+◌, ◌-◌, ◌*◌, ◌/◌, ◌^◌, ◌<◌, ◌≤◌};
-ghost use Rattle.xv_lone.specs.Plan.{flat, need, blocks_touched};
+ghost use Rattle.xv_region.specs.Need.{need, blocks_touched};
+ghost use Rattle.xv_region.specs.Plan.{flat};
 ghost use Rattle.xv_top.specs.Script.{most_pages};
 
 use crate::guest::FLAT_BASE;
@@ -22,7 +23,7 @@ fn blocks(last: u64, size: u64) -> u64
 pub fn frames_needed(pages: u32) -> u64
     requires some { 0 < pages }
     requires most { pages ≤ most_pages }
-    ensures need { result ≡ need (flat pages) }
+    ensures need { result ≡ need (flat pages).regions }
     ensures more { pages < result }
 {
     let last = FLAT_BASE + 4096 * u64::from(pages) - 1;

@@ -5,7 +5,7 @@ ghost use Rattle.std.specs.List.{All};
 ghost use Rattle.xv_hart.specs.Hart.{regs_of, taken_by, trail_of};
 ghost use Rattle.xv_hart.specs.Machine.{IsFit};
 ghost use Rattle.xv_hart.specs.Step.{IsWellFormed};
-ghost use Rattle.xv_lone.specs.Cell.{cell};
+ghost use Rattle.xv_lone.specs.Memory.{spot_at};
 ghost use Rattle.xv_lone.specs.Journal as journal;
 ghost use Rattle.xv_lone.specs.Ready as ready;
 ghost use Rattle.xv_lone.specs.Step.{lines_at, On};
@@ -136,10 +136,10 @@ impl Guest {
     pub fn load(&self, mem: &mut HostMem, gpa: u64, bytes: &[u8]) -> bool
         requires { IsPlaced self.now (length mem.old) }
         ensures outside { result ≡ false →
-            cell (plan_of self.now) gpa (length bytes.now) ≡ None }
+            spot_at (plan_of self.now) (length bytes.now) gpa ≡ None }
         ensures untouched { result ≡ false → mem.new ≡ mem.old }
         ensures inside { result ≡ true →
-            is_some (cell (plan_of self.now) gpa (length bytes.now)) ≡ true }
+            is_some (spot_at (plan_of self.now) (length bytes.now) gpa) ≡ true }
         ensures loaded { result ≡ true →
             lone_of self.now mem.new
             ≡ journal.after_load (plan_of self.now) gpa bytes.now (lone_of self.now mem.old) }

@@ -1,5 +1,5 @@
 use Rattle.std.proofs.Common.{◌+◌, ◌-◌, ◌*◌, refl, arith}
-use Rattle.xv_lone.specs.Plan.{flat_base}
+use Rattle.xv_region.specs.Plan.{flat_base}
 use Rattle.xv_top.proofs.NeedLemmas.{need_is}
 use Rattle.xv_top.proofs.frames.frames_needed.Goals as goal
 

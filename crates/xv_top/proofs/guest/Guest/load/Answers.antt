@@ -1,8 +1,14 @@
 use Rattle.std.proofs.Common.{◌∙◌, subst, sym, ap, length}
 use Rattle.xv_hart.specs.Window.{host_of}
 use Rattle.xv_top.specs.Guest.{lone_of, host_end, SameElsewhere}
-use Rattle.xv_top.proofs.GuestLemmas.{same_load, some_load, load_elsewhere}
+use Rattle.xv_top.proofs.GuestLemmas.{same_load, some_load, no_load, load_elsewhere}
 use Rattle.xv_top.proofs.guest.Guest.load.Goals as goal
+
+pub returns-in_default-clause-outside : goal.returns-in_default-clause-outside
+returns-in_default-clause-outside c _ =
+    let n = length c.args.bytes.now in
+    no_load c.args.self.now c.args.gpa n
+    (ap (λ w. host_of w n c.args.gpa) (sym c.window.ensures) ∙ sym c.in_default.ensures)
 
 pub returns-clause-loaded : goal.returns-clause-loaded
 returns-clause-loaded c _ =

@@ -1,7 +1,8 @@
 use Rattle.std.proofs.Common.{◌∙◌, ◌<◌, ◌≤◌, length, Some, is_some, ltb, subst, refl, sym, ap}
 use Rattle.std.proofs.Common.{codes, arith}
 use Rattle.std.proofs.lemmas.Bool.{cond-true, cond-false, lt-ltb, le-ltb}
-use Rattle.xv_lone.specs.Plan.{flat, need}
+use Rattle.xv_region.specs.Need.{need}
+use Rattle.xv_region.specs.Plan.{flat}
 use Rattle.xv_top.specs.Texts.{frames_text, created_text}
 use Rattle.xv_top.specs.World.{guest_named}
 use Rattle.xv_top.specs.Answer.{refused, created}
@@ -42,7 +43,7 @@ returns-then-free-needed-clause-answer c bytes _ =
     let w = world_of m bytes in
     let name = c.args.name.now in
     let none = none_there m.guest (sym c.if-is_some-2.ensures) in
-    let few : m.pool < need (flat c.args.pages) =
+    let few : m.pool < need (flat c.args.pages).regions =
     omega (
       arith,
       c.if-free-needed.true,
@@ -52,11 +53,11 @@ returns-then-free-needed-clause-answer c bytes _ =
     gives_by _ (no_frames m c.args.pages)
     (flat_is w name c.args.pages
     ∙ (flat_alone m bytes name c.args.pages none
-    ∙ cond-true _ _ _ (lt-ltb m.pool (need (flat c.args.pages)) few)))
+    ∙ cond-true _ _ _ (lt-ltb m.pool (need (flat c.args.pages).regions) few)))
     (record {
       text = c.frames.ensures
           ∙ (ap (λ n. frames_text n c.from-free.result) c.frames_needed-needed.ensures.need
-          ∙ ap (frames_text (need (flat c.args.pages))) c.from-free.ensures);
+          ∙ ap (frames_text (need (flat c.args.pages).regions)) c.from-free.ensures);
       world = same_none m bytes none;
     })
 
@@ -67,7 +68,7 @@ returns-clause-answer c bytes sound =
     let name = c.args.name.now in
     let pages = c.args.pages in
     let none = none_there m.guest (sym c.if-is_some-2.ensures) in
-    let enough : need (flat pages) ≤ m.pool =
+    let enough : need (flat pages).regions ≤ m.pool =
     omega (
       arith,
       c.if-free-needed.false,
@@ -77,7 +78,7 @@ returns-clause-answer c bytes sound =
     gives_by _ (created (no_guest m) name (flat pages))
     (flat_is w name pages
     ∙ (flat_alone m bytes name pages none
-    ∙ cond-false _ _ _ (le-ltb m.pool (need (flat pages)) enough)))
+    ∙ cond-false _ _ _ (le-ltb m.pool (need (flat pages).regions) enough)))
     (record {
       text = c.created.ensures
           ∙ (ap (λ n. created_text n 1 1 c.frames_needed-needed.result) c.bytes.ensures.value
@@ -95,7 +96,7 @@ returns-clause-answer c bytes sound =
 
 pub returns-clause-sound : goal.returns-clause-sound
 returns-clause-sound c bytes sound =
-    let enough : need (flat c.args.pages) ≤ c.args.self.now.pool =
+    let enough : need (flat c.args.pages).regions ≤ c.args.self.now.pool =
     omega (
       arith,
       c.if-free-needed.false,

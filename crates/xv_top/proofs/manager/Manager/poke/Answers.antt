@@ -1,7 +1,7 @@
 use Rattle.std.proofs.Common.{◌≡◌, ◌∙◌, length, None, Some, subst, refl, sym, ap, codes}
 use Rattle.std.proofs.lemmas.Bool.{cond-true, cond-false}
-use Rattle.xv_lone.specs.Plan.{flat}
-use Rattle.xv_lone.specs.Cell.{cell}
+use Rattle.xv_region.specs.Plan.{flat}
+use Rattle.xv_lone.specs.Memory.{spot_at}
 use Rattle.xv_lone.specs.Journal.{Load}
 use Rattle.xv_top.specs.Texts.{poked_text}
 use Rattle.xv_lone.specs.Ready.{is_reset}
@@ -59,7 +59,7 @@ returns-clause-answer c =
     gives_by _ (changes w name (Load c.args.gpa piece) (poked_text name (length piece)))
     (poke_is w name c.args.gpa piece (Some (live_guest g bytes)) (c.in-Some.ensures.guest bytes)
     ∙ (cond-true (is_reset g.state) _ _ (sym c.if-not-is_reset.ensures)
-    ∙ poke_at_some w name c.args.gpa piece (cell (flat g.pages) c.args.gpa (length piece))
+    ∙ poke_at_some w name c.args.gpa piece (spot_at (flat g.pages) (length piece) c.args.gpa)
     (c.if-not-load.ensures.inside refl)))
     (record {
       text = c.poked.ensures ∙ ap (λ n. poked_text n (length piece)) c.bytes.ensures.value;
@@ -94,7 +94,7 @@ returns-clause-keeps c =
     ≡ changes w name (Load c.args.gpa piece) (poked_text name (length piece)) =
     poke_is w name c.args.gpa piece (Some (live_guest g bytes)) (c.in-Some.ensures.guest bytes)
     ∙ (cond-true (is_reset g.state) _ _ (sym c.if-not-is_reset.ensures)
-    ∙ poke_at_some w name c.args.gpa piece (cell (flat g.pages) c.args.gpa (length piece))
+    ∙ poke_at_some w name c.args.gpa piece (spot_at (flat g.pages) (length piece) c.args.gpa)
     (c.if-not-load.ensures.inside refl)) in
     record {
       outside = subst (λ end. SameElsewhere end bytes c.load.new.mem)

@@ -1,0 +1,4 @@
+pub mod CellLemmas
+pub mod RuleLemmas
+pub mod CountLemmas
+pub mod NeedLemmas

@@ -1,0 +1,4 @@
+pub mod Cell
+pub mod Need
+pub mod Plan
+pub mod Rules
