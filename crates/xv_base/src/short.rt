@@ -30,7 +30,8 @@ impl<const N: usize> Model for Short<N> {
 
     ghost inverse = { λ bytes. record { bytes = padded N bytes; len = length bytes } };
 
-    ghost inverse_ok = { λ s padding. Prim.rw (padding.zeros, length-take_padded N s.bytes s.len padding) refl };
+    ghost inverse_ok = { λ s padding.
+        Prim.rw (padding.zeros, length-take_padded N s.bytes s.len padding) refl };
 }
 
 impl<const N: usize> Short<N> {

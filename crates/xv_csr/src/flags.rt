@@ -1,7 +1,7 @@
 //! The bits of the supervisor CSRs that have names of their own.
 //!
-//! Constants and lists stand here by hand, since `bitflag_items!` would write fourteen operators with
-//! them that nothing calls, each to be proved at every check.
+//! Constants and lists stand here by hand, since `bitflag_items!` would write fourteen operators
+//! with them that nothing calls, each to be proved at every check.
 ghost use Rattle.std.specs.Prelude.{⊤, ◌^◌, [], ◌∷◌, codes};
 
 use bitflags::{Flag, Flags};
@@ -50,7 +50,8 @@ impl Flags for Sstatus {
 
     ghost exact = { ⊤ };
 
-    ghost table = { (codes "SIE", 2 ^ 1) ∷ (codes "SPIE", 2 ^ 5) ∷ (codes "SPP", 2 ^ 8) ∷ (codes "SUM", 2 ^ 18) ∷ (codes "MXR", 2 ^ 19) ∷ [] };
+    ghost table = { (codes "SIE", 2 ^ 1) ∷ (codes "SPIE", 2 ^ 5) ∷ (codes "SPP", 2 ^ 8)
+        ∷ (codes "SUM", 2 ^ 18) ∷ (codes "MXR", 2 ^ 19) ∷ [] };
 
     ghost set_of = { λ status. status.0 };
 
@@ -99,7 +100,8 @@ impl Flags for Interrupts {
 
     ghost exact = { ⊤ };
 
-    ghost table = { (codes "SOFTWARE", 2 ^ 1) ∷ (codes "TIMER", 2 ^ 5) ∷ (codes "EXTERNAL", 2 ^ 9) ∷ [] };
+    ghost table = { (codes "SOFTWARE", 2 ^ 1) ∷ (codes "TIMER", 2 ^ 5)
+        ∷ (codes "EXTERNAL", 2 ^ 9) ∷ [] };
 
     ghost set_of = { λ interrupts. interrupts.0 };
 

@@ -1,7 +1,7 @@
 //! The bits of the hypervisor CSRs that have names of their own.
 //!
-//! Constants and lists stand here by hand, since `bitflag_items!` would write fourteen operators with
-//! them that nothing calls, each to be proved at every check.
+//! Constants and lists stand here by hand, since `bitflag_items!` would write fourteen operators
+//! with them that nothing calls, each to be proved at every check.
 ghost use Rattle.std.specs.Prelude.{⊤, ◌^◌, [], ◌∷◌, codes};
 
 use bitflags::{Flag, Flags};

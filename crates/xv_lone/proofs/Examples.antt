@@ -243,7 +243,8 @@ table =
     ∷ []
 
 the_rows : map (λ r. r.0) table ≡ map (λ r. r.1) table
-unfolding region_of vcpu_at plan mixed mixed_shows mixed_traps cell bytes_of memory_of journal hart_number vcpu_shows vcpu_trap of_machine shows traps
+unfolding region_of vcpu_at plan mixed mixed_shows mixed_traps cell bytes_of memory_of journal
+    hart_number vcpu_shows vcpu_trap of_machine shows traps
     bit end_number turn_shows end_shows pair pair_shows at_x5 handled table replay ending visited
     answered steps turn whole_turn iterate lone_step step word_at put put_word decode_of row_of rows
     form_of operation_at effect_of chosen_interrupt pending sip_of csr_read csr_written register_of

@@ -1,5 +1,6 @@
 -- The blocks that one region touches are those from its first byte's to its last byte's.
-use Rattle.std.proofs.Common.{◌≡◌, ℕ, zero, suc, ◌+◌, ◌-◌, ◌*◌, ◌/◌, ◌^◌, ◌<◌, ◌≤◌, min, max, Bool, true}
+use Rattle.std.proofs.Common.{◌≡◌, ℕ, zero, suc, ◌+◌, ◌-◌, ◌*◌, ◌/◌, ◌^◌, ◌<◌, ◌≤◌, min, max, Bool}
+use Rattle.std.proofs.Common.{true}
 use Rattle.std.proofs.Common.{false, ◌&&◌, ◌||◌, leb, [], ◌∷◌, Decides, refl, ap, ◌∙◌, arith, lit<}
 use Rattle.std.proofs.Common.{add-one, codes}
 use Rattle.std.proofs.Math.Nat.{div-lt_iff_lt-mul, le-div_iff_mul-le, mul-div_cancel_left}

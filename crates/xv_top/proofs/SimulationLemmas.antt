@@ -141,7 +141,8 @@ module _ (g : Guest) (t : ℕ) (first : List ℕ) where
     one =
         subst (SameOutcome (step (lone_bus (plan_of g)) (inputs_of r) (seen s))) (sym outcome_is)
         (same_outcome (step (lone_bus (plan_of g)) (inputs_of r) (seen s)) host_outcome
-        (buses.step_is_one (lone_bus (plan_of g)) (window_bus (window_of g)) (seen_memory g) place_at
+        (buses.step_is_one (lone_bus (plan_of g)) (window_bus (window_of g))
+        (seen_memory g) place_at
         (IsGoodFor g first) (StandsIn g) Nothing (joined g first) s good
         (inputs_of r) formed.pc))
 
