@@ -60,16 +60,16 @@ count-either a b (suc n) =
     parts false false = refl
 
 -- none passes from m on
-past : (test : ℕ → Bool) (m n : ℕ) → m ≤ n → ((k : ℕ) → m ≤ k → test k ≡ false) → count_below test n ≡ count_below test m
+pub count-past : (test : ℕ → Bool) (m n : ℕ) → m ≤ n → ((k : ℕ) → m ≤ k → test k ≡ false) → count_below test n ≡ count_below test m
 unfolding count_below
-past test m zero le none =
+count-past test m zero le none =
     let same : m ≡ 0 = omega (arith, le) in
     rw same refl
-past test m (suc n) le none = elim (cases_eq m (suc n)) [
+count-past test m (suc n) le none = elim (cases_eq m (suc n)) [
   | inl same ↦ rw same refl
   | inr apart ↦ (
       let below : m ≤ n = omega (arith, le, apart) in
-      next test n ∙ ap (λ b. count_below test n + one b) (none n below) ∙ more (past test m n below none)
+      next test n ∙ ap (λ b. count_below test n + one b) (none n below) ∙ more (count-past test m n below none)
       )
 ]
   where
@@ -102,7 +102,7 @@ full test m (suc n) le all = elim (cases_eq m (suc n)) [
 pub count-one : (test : ℕ → Bool) (first n : ℕ) → first < n → ((k : ℕ) → k < first → test k ≡ false) → ((k : ℕ) → first < k → test k ≡ false)
     → count_below test n ≡ one (test first)
 count-one test first n within before after =
-    let rest = past test (suc first) n (omega arith) (λ k from. after k (omega arith)) in
+    let rest = count-past test (suc first) n (omega arith) (λ k from. after k (omega arith)) in
     let here = next test first in
     let none = count-none test first before in
     omega arith
@@ -110,7 +110,7 @@ count-one test first n within before after =
 pub count-range : (test : ℕ → Bool) (first last n : ℕ) → first < last → last < n → ((k : ℕ) → k < first → test k ≡ false) → ((k : ℕ) → last < k → test k ≡ false)
     → ((k : ℕ) → first < k → k < last → test k ≡ true) → count_below test n ≡ one (test first) + (last - first - 1) + one (test last)
 count-range test first last n order within before after between =
-    let rest = past test (suc last) n (omega arith) (λ k from. after k (omega arith)) in
+    let rest = count-past test (suc last) n (omega arith) (λ k from. after k (omega arith)) in
     let at_last = next test last in
     let inside = full test (suc first) last (omega arith) (λ k from to. between k (omega arith) to) in
     let at_first = next test first in

@@ -1,8 +1,9 @@
 -- The blocks that a region touches, and which of them are new.
 use Rattle.std.proofs.Common.{◌≡◌, ◌≢◌, ℕ, suc, ◌+◌, ◌-◌, ◌*◌, ◌/◌, ◌^◌, ◌<◌, ◌≤◌, Bool, true, false, ◌&&◌, ◌||◌, not, cond, List, [], ◌∷◌, length, get_or, take, refl, sym, subst, ap, ◌∙◌, arith}
-use Rattle.std.specs.Prelude.{IsTrue}
-use Rattle.std.specs.List.{list_any}
+use Rattle.std.specs.Prelude.{IsTrue, nat_le}
+use Rattle.std.specs.List.{list_all, list_any}
 use Rattle.std.proofs.Math.Nat.{suc-mul, div-lt_iff_lt-mul, le-div_iff_mul-le, div-le_self, div-mul-le_self}
+use Rattle.std.proofs.lemmas.Nat.{mul-le}
 use Rattle.std.proofs.lemmas.Bool.Decides.{nat_tests}
 use Rattle.std.proofs.lemmas.List.Folds.{list_any_more}
 use Rattle.xv_base.specs.Range.{meets}
@@ -12,8 +13,8 @@ use Rattle.xv_region.specs.declared.plan.Region.{Region}
 use Rattle.xv_region.specs.Cell.{bytes_at, span_of}
 use Rattle.xv_region.specs.Need.{blocks_touched, count_below, is_mapped, is_new, one_if_new, own_pages, own_size, touches}
 use Rattle.xv_region.specs.Rules.{Accepted, are_sound, shares}
-use Rattle.xv_region.proofs.CountLemmas.{one, count-le, count-same, count-either, count-none, count-one, count-range}
-use Rattle.xv_region.proofs.RuleLemmas.{sound-bounded, sound-some, apart}
+use Rattle.xv_region.proofs.CountLemmas.{one, count-le, count-same, count-either, count-none, count-one, count-range, count-past}
+use Rattle.xv_region.proofs.RuleLemmas.{both, sound-bounded, sound-some, apart}
 
 -- ---- pages
 
@@ -183,3 +184,38 @@ module _ (regions : List Region) (accepted : Accepted regions) (j : ℕ) (region
   accepted-some =
       let P : Region → Type 0 = λ r. 0 < r.size in
       subst P (sym read) (sound-some regions j region accepted.sound within)
+
+-- ---- blocks behind the end of every region
+
+abbrev pub ends_by : ℕ → List Region → Bool
+ends_by end rs = list_all (λ r. nat_le (r.base + r.size) end) rs
+
+behind : (size m k : ℕ) (r : Region) → nat_le (r.base + r.size) (m * size) ≡ true → m ≤ k → meets (bytes_at (k * size) size) (span_of r) ≡ false
+behind size m k r end from =
+    let less : m * size ≤ k * size = mul-le m size k size from (omega arith) in
+    grind (arith, nat_tests)
+
+none_behind : (size m k : ℕ) (rs : List Region) → ends_by (m * size) rs ≡ true → m ≤ k → list_any (touches size k) rs ≡ false
+none_behind size m k [] end from = refl
+none_behind size m k (r ∷ rs) end from =
+    let parts = both (nat_le (r.base + r.size) (m * size)) (ends_by (m * size) rs) end in
+    by (is_mapped r.kind) (behind size m k r parts.0 from) (none_behind size m k rs parts.1 from)
+  where
+    by : (mapped : Bool) → meets (bytes_at (k * size) size) (span_of r) ≡ false → list_any (touches size k) rs ≡ false
+        → ((mapped && meets (bytes_at (k * size) size) (span_of r)) || list_any (touches size k) rs) ≡ false
+    by true here rest = rw (here, rest) refl
+    by false here rest = rw rest refl
+
+pub ends-later : (low high : ℕ) (rs : List Region) → nat_le low high ≡ true → ends_by low rs ≡ true → ends_by high rs ≡ true
+ends-later low high [] order end = refl
+ends-later low high (r ∷ rs) order end =
+    let parts = both (nat_le (r.base + r.size) low) (ends_by low rs) end in
+    let here = parts.0 in
+    let later : nat_le (r.base + r.size) high ≡ true = grind (arith, nat_tests) in
+    rw (later, ends-later low high rs order parts.1) refl
+
+pub blocks-past : (size m n : ℕ) (rs : List Region) → nat_le m n ≡ true → ends_by (m * size) rs ≡ true → blocks_touched size n rs ≡ blocks_touched size m rs
+unfolding blocks_touched
+blocks-past size m n rs less end =
+    let order : m ≤ n = grind (arith, nat_tests) in
+    count-past (λ k. list_any (touches size k) rs) m n order (λ k from. none_behind size m k rs end from)
