@@ -11,3 +11,4 @@ pub mod NodesAgain
 pub mod HeaderAgain
 pub mod TreeAgain
 pub mod ShapeLemmas
+pub mod SizeLemmas

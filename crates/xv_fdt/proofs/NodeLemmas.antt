@@ -75,7 +75,7 @@ begun_ok x = Ok x
 pair_is : (x y : Entry × List Token) → begun_ok x ≡ begun_ok y → x ≡ y
 pair_is x y e = cc
 
-shorter_begun : (named : Result (List ℕ) Fault) (parent depth : ℕ) (ts : List Token)
+pub shorter_begun : (named : Result (List ℕ) Fault) (parent depth : ℕ) (ts : List Token)
     (x : Entry × List Token) → node_of named parent depth ts ≡ Ok x → length x.1 ≤ length ts
 shorter_begun named parent depth ts x e =
     let name = bind_ok named (λ n. properties nobody ts

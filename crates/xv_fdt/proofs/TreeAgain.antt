@@ -47,7 +47,7 @@ root_nameless at read name e =
     let empty = given_ok (length found.0 == 0) BadName at (Ok found.0) name found.2 in
     sym (ok_is found.0 name empty.1) ∙ nil_from_length found.0 (eqb-true (length found.0) 0 empty.0)
 
-closed_ok : (entries es : List Entry) (ts : List Token) → before_end entries ts ≡ Ok es
+pub closed_ok : (entries es : List Entry) (ts : List Token) → before_end entries ts ≡ Ok es
     → es ≡ entries
 closed_ok entries es [] e = absurd cc
 closed_ok entries es (End at ∷ ts) e = sym (ok_is entries es e)

@@ -17,7 +17,7 @@ mod tree;
 mod writing;
 
 pub use fault::{FdtFault, FdtKind};
-pub use law::{is_shaped, reads_again};
+pub use law::{has_few_nodes, is_shaped, reads_again};
 pub use name::NodeName;
 pub use reading::read;
 pub use tree::{Node, Prop, Tree};

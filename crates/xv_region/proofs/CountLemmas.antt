@@ -1,5 +1,6 @@
 -- How many numbers below a bound pass a test.
-use Rattle.std.proofs.Common.{◌≡◌, ℕ, zero, suc, ◌+◌, ◌-◌, ◌<◌, ◌≤◌, Bool, true, false, ◌&&◌, ◌||◌, not, cond, refl, ap, ◌∙◌, inl, inr, arith}
+use Rattle.std.proofs.Common.{◌≡◌, ℕ, zero, suc, ◌+◌, ◌-◌, ◌<◌, ◌≤◌, Bool, true, false, ◌&&◌, ◌||◌}
+use Rattle.std.proofs.Common.{not, cond, refl, ap, ◌∙◌, inl, inr, arith}
 use Rattle.std.proofs.lemmas.Bool.{cases_eq}
 use Rattle.xv_region.specs.Need.{count_below}
 
@@ -11,7 +12,8 @@ next : (test : ℕ → Bool) (n : ℕ) → count_below test (suc n) ≡ count_be
 unfolding count_below
 next test n = by (test n)
   where
-    by : (b : Bool) → cond b (count_below test n + 1) (count_below test n) ≡ count_below test n + one b
+    by : (b : Bool) → cond b (count_below test n + 1) (count_below test n)
+        ≡ count_below test n + one b
     by true = refl
     by false = omega arith
 
@@ -28,21 +30,26 @@ count-le test (suc n) =
     at_most true = omega arith
     at_most false = omega arith
 
-pub count-none : (test : ℕ → Bool) (n : ℕ) → ((k : ℕ) → k < n → test k ≡ false) → count_below test n ≡ 0
+pub count-none : (test : ℕ → Bool) (n : ℕ) → ((k : ℕ) → k < n → test k ≡ false)
+    → count_below test n ≡ 0
 unfolding count_below
 count-none test zero none = refl
-count-none test (suc n) none = next test n ∙ ap (λ b. count_below test n + one b) (none n (omega arith)) ∙ last (count-none test n (λ k below. none k (omega arith)))
+count-none test (suc n) none =
+    next test n ∙ ap (λ b. count_below test n + one b) (none n (omega arith))
+    ∙ last (count-none test n (λ k below. none k (omega arith)))
   where
     last : count_below test n ≡ 0 → count_below test n + 0 ≡ 0
     last is = omega arith
 
-pub count-same : (f g : ℕ → Bool) (n : ℕ) → ((k : ℕ) → f k ≡ g k) → count_below f n ≡ count_below g n
+pub count-same : (f g : ℕ → Bool) (n : ℕ) → ((k : ℕ) → f k ≡ g k)
+    → count_below f n ≡ count_below g n
 unfolding count_below
 count-same f g zero same = refl
 count-same f g (suc n) same = rw (same n, count-same f g n same) refl
 
 -- those that pass one of two tests
-pub count-either : (a b : ℕ → Bool) (n : ℕ) → count_below (λ k. a k || b k) n ≡ count_below a n + count_below (λ k. b k && not (a k)) n
+pub count-either : (a b : ℕ → Bool) (n : ℕ)
+    → count_below (λ k. a k || b k) n ≡ count_below a n + count_below (λ k. b k && not (a k)) n
 unfolding count_below
 count-either a b zero = refl
 count-either a b (suc n) =
@@ -60,16 +67,18 @@ count-either a b (suc n) =
     parts false false = refl
 
 -- none passes from m on
-past : (test : ℕ → Bool) (m n : ℕ) → m ≤ n → ((k : ℕ) → m ≤ k → test k ≡ false) → count_below test n ≡ count_below test m
+pub count-past : (test : ℕ → Bool) (m n : ℕ) → m ≤ n → ((k : ℕ) → m ≤ k → test k ≡ false)
+    → count_below test n ≡ count_below test m
 unfolding count_below
-past test m zero le none =
+count-past test m zero le none =
     let same : m ≡ 0 = omega (arith, le) in
     rw same refl
-past test m (suc n) le none = elim (cases_eq m (suc n)) [
+count-past test m (suc n) le none = elim (cases_eq m (suc n)) [
   | inl same ↦ rw same refl
   | inr apart ↦ (
       let below : m ≤ n = omega (arith, le, apart) in
-      next test n ∙ ap (λ b. count_below test n + one b) (none n below) ∙ more (past test m n below none)
+      next test n ∙ ap (λ b. count_below test n + one b) (none n below)
+      ∙ more (count-past test m n below none)
       )
 ]
   where
@@ -77,7 +86,8 @@ past test m (suc n) le none = elim (cases_eq m (suc n)) [
     more is = omega arith
 
 -- all pass between m and n
-full : (test : ℕ → Bool) (m n : ℕ) → m ≤ n → ((k : ℕ) → m ≤ k → k < n → test k ≡ true) → count_below test n ≡ count_below test m + (n - m)
+full : (test : ℕ → Bool) (m n : ℕ) → m ≤ n → ((k : ℕ) → m ≤ k → k < n → test k ≡ true)
+    → count_below test n ≡ count_below test m + (n - m)
 unfolding count_below
 full test m zero le all =
     let same : m ≡ 0 = omega (arith, le) in
@@ -86,7 +96,8 @@ full test m (suc n) le all = elim (cases_eq m (suc n)) [
   | inl same ↦ whole same
   | inr apart ↦ (
       let below : m ≤ n = omega (arith, le, apart) in
-      next test n ∙ ap (λ b. count_below test n + one b) (all n below (omega arith)) ∙ more below (full test m n below (λ k from to. all k from (omega arith)))
+      next test n ∙ ap (λ b. count_below test n + one b) (all n below (omega arith))
+      ∙ more below (full test m n below (λ k from to. all k from (omega arith)))
       )
 ]
   where
@@ -95,24 +106,29 @@ full test m (suc n) le all = elim (cases_eq m (suc n)) [
         let equal = ap (count_below test) same in
         omega arith
 
-    more : m ≤ n → count_below test n ≡ count_below test m + (n - m) → count_below test n + 1 ≡ count_below test m + (suc n - m)
+    more : m ≤ n → count_below test n ≡ count_below test m + (n - m)
+        → count_below test n + 1 ≡ count_below test m + (suc n - m)
     more below is = omega arith
 
 -- only numbers from first to last pass, and all those between them
-pub count-one : (test : ℕ → Bool) (first n : ℕ) → first < n → ((k : ℕ) → k < first → test k ≡ false) → ((k : ℕ) → first < k → test k ≡ false)
+pub count-one : (test : ℕ → Bool) (first n : ℕ) → first < n → ((k : ℕ) → k < first → test k ≡ false)
+    → ((k : ℕ) → first < k → test k ≡ false)
     → count_below test n ≡ one (test first)
 count-one test first n within before after =
-    let rest = past test (suc first) n (omega arith) (λ k from. after k (omega arith)) in
+    let rest = count-past test (suc first) n (omega arith) (λ k from. after k (omega arith)) in
     let here = next test first in
     let none = count-none test first before in
     omega arith
 
-pub count-range : (test : ℕ → Bool) (first last n : ℕ) → first < last → last < n → ((k : ℕ) → k < first → test k ≡ false) → ((k : ℕ) → last < k → test k ≡ false)
-    → ((k : ℕ) → first < k → k < last → test k ≡ true) → count_below test n ≡ one (test first) + (last - first - 1) + one (test last)
+pub count-range : (test : ℕ → Bool) (first last n : ℕ) → first < last → last < n
+    → ((k : ℕ) → k < first → test k ≡ false) → ((k : ℕ) → last < k → test k ≡ false)
+    → ((k : ℕ) → first < k → k < last → test k ≡ true)
+    → count_below test n ≡ one (test first) + (last - first - 1) + one (test last)
 count-range test first last n order within before after between =
-    let rest = past test (suc last) n (omega arith) (λ k from. after k (omega arith)) in
+    let rest = count-past test (suc last) n (omega arith) (λ k from. after k (omega arith)) in
     let at_last = next test last in
-    let inside = full test (suc first) last (omega arith) (λ k from to. between k (omega arith) to) in
+    let inside =
+    full test (suc first) last (omega arith) (λ k from to. between k (omega arith) to) in
     let at_first = next test first in
     let none = count-none test first before in
     omega arith

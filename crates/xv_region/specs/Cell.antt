@@ -43,6 +43,7 @@ nowhere a = cells.Nothing
 abbrev pub one_hop : List Region → (n a : ℕ) → Cell
 one_hop regions n a = cell_from nowhere 0 regions a n
 
--- the cell of the n bytes from guest physical address a on; nothing, where they don't lie wholly in one region
+-- the cell of the n bytes from guest physical address a on; nothing, where they don't lie wholly in
+-- one region
 unfoldable pub cell : List Region → (a n : ℕ) → Cell
 cell regions a n = cell_from (one_hop regions n) 0 regions a n

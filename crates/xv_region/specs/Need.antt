@@ -1,7 +1,8 @@
--- How many frames of 4 KiB a guest takes: one for each page of its own memory, and one for each table of its
--- G stage below the root (Privileged Architecture 20211203, 8.5.1: Sv39x4), which is one for each block of 1 GiB
--- and one for each block of 2 MiB in which it has memory.
-use Rattle.std.specs.Prelude.{ℕ, zero, suc, ◌+◌, ◌*◌, ◌/◌, ◌^◌, Bool, true, false, ◌&&◌, not, if◌then◌else◌, List, sum_by}
+-- How many frames of 4 KiB a guest takes: one for each page of its own memory, and one for each
+-- table of its G stage below the root (Privileged Architecture 20211203, 8.5.1: Sv39x4), which is
+-- one for each block of 1 GiB and one for each block of 2 MiB in which it has memory.
+use Rattle.std.specs.Prelude.{ℕ, zero, suc, ◌+◌, ◌*◌, ◌/◌, ◌^◌, Bool, true, false, ◌&&◌, not}
+use Rattle.std.specs.Prelude.{if◌then◌else◌, List, sum_by}
 use Rattle.std.specs.List.{list_any}
 use Rattle.xv_base.specs.Range.{meets}
 use Rattle.xv_region.specs.declared.plan.Kind.{Kind}

@@ -1,12 +1,14 @@
--- Which regions may stand together in a guest. What a region by itself must keep comes first; then the regions
--- are judged one after another, each against the earlier ones and by its own kind.
-use Rattle.std.specs.Prelude.{◌≡◌, ℕ, ◌≤◌, suc, ◌+◌, ◌%◌, ◌^◌, ◌==◌, Bool, true, false, ◌&&◌, not, nat_le, nat_lt}
+-- Which regions may stand together in a guest. What a region by itself must keep comes first; then
+-- the regions are judged one after another, each against the earlier ones and by its own kind.
+use Rattle.std.specs.Prelude.{◌≡◌, ℕ, ◌≤◌, suc, ◌+◌, ◌%◌, ◌^◌, ◌==◌, Bool, true, false, ◌&&◌, not}
+use Rattle.std.specs.Prelude.{nat_le, nat_lt}
 use Rattle.std.specs.Prelude.{List, [], ◌∷◌, length, take, Option, Some, None, IsTrue}
 use Rattle.std.specs.List.{list_all, list_any, position}
 use Rattle.xv_base.specs.declared.keys.Span.{Span}
 use Rattle.xv_base.specs.Range.{lies_in, meets}
 use Rattle.xv_region.specs.declared.fault.RegionFault.{RegionFault}
-use Rattle.xv_region.specs.declared.fault.RegionFault.TheVariants.{Overlap, BadAlias, BadHost, NoMemory}
+use Rattle.xv_region.specs.declared.fault.RegionFault.TheVariants.{Overlap, BadAlias, BadHost}
+use Rattle.xv_region.specs.declared.fault.RegionFault.TheVariants.{NoMemory}
 use Rattle.xv_region.specs.declared.plan.DeviceKind.{DeviceKind}
 use Rattle.xv_region.specs.declared.plan.DeviceKind.TheVariants.{Uart, Plic, Finisher}
 use Rattle.xv_region.specs.declared.plan.Kind.{Kind}
@@ -97,7 +99,8 @@ meets_host bytes r = meets_host_of bytes r.size r.kind
 abbrev pub is_good_host : Span → List Region → (host size : ℕ) → Bool
 is_good_host area earlier host size =
     host % page_size == 0
-    && (lies_in (bytes_at host size) area && not (list_any (meets_host (bytes_at host size)) earlier))
+    && (lies_in (bytes_at host size) area
+    && not (list_any (meets_host (bytes_at host size)) earlier))
 
 -- the fault, unless the rule is kept
 abbrev pub unless : Bool → RegionFault → Option RegionFault
@@ -105,11 +108,14 @@ unless true fault = None
 unless false fault = Some fault
 
 -- the rule of region j's own kind
-abbrev pub kind_fault : Span → (regions earlier : List Region) → (j size : ℕ) → Kind → Option RegionFault
+abbrev pub kind_fault : Span → (regions earlier : List Region) → (j size : ℕ) → Kind
+    → Option RegionFault
 kind_fault area regions earlier j size Ram = None
 kind_fault area regions earlier j size Rom = None
-kind_fault area regions earlier j size (Reserved host) = unless (is_good_host area earlier host size) (BadHost j)
-kind_fault area regions earlier j size (Alias target) = unless (is_good_alias regions target size) (BadAlias j)
+kind_fault area regions earlier j size (Reserved host) =
+    unless (is_good_host area earlier host size) (BadHost j)
+kind_fault area regions earlier j size (Alias target) =
+    unless (is_good_alias regions target size) (BadAlias j)
 kind_fault area regions earlier j size (Device kind) = None
 
 -- a region that shares a byte, if there is one, and else what comes later
@@ -117,7 +123,8 @@ abbrev pub overlap_or : ℕ → Option ℕ → Option RegionFault → Option Reg
 overlap_or j (Some i) later = Some (Overlap i j)
 overlap_or j None later = later
 
--- what is wrong with region j: the first earlier one that shares a byte with it, then its own kind's rule
+-- what is wrong with region j: the first earlier one that shares a byte with it, then its own
+-- kind's rule
 abbrev pub fault_of : Span → (regions earlier : List Region) → ℕ → Region → Option RegionFault
 fault_of area regions earlier j r =
     overlap_or j (position (shares r) earlier) (kind_fault area regions earlier j r.size r.kind)

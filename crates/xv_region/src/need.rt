@@ -1,7 +1,8 @@
 //! How many frames of the host a guest takes.
 ghost use Rattle.std.specs.Prelude.{◌≡◌, ℕ, ◌+◌, ◌*◌, ◌/◌, ◌<◌, ◌≤◌, false, length, sum_by, IsTrue};
 ghost use Rattle.std.specs.List.{list_any};
-ghost use Rattle.xv_region.specs.Need.{blocks_touched, count_below, is_mapped, is_new, need, one_if_new};
+ghost use Rattle.xv_region.specs.Need.{blocks_touched, count_below, is_mapped, is_new, need};
+ghost use Rattle.xv_region.specs.Need.{one_if_new};
 ghost use Rattle.xv_region.specs.Need.{own_pages, touches};
 ghost use Rattle.xv_region.specs.Rules.{Accepted, address_end, are_sound, shares};
 

@@ -22,7 +22,8 @@ pub(crate) fn fault_of(
 ) -> Option<RegionFault>
     requires few { length regions.now ≤ 32 }
     requires within { number < length regions.now }
-    ensures fault { result ≡ fault_of area.now regions.now (take number regions.now) number region.now }
+    ensures fault { result
+        ≡ fault_of area.now regions.now (take number regions.now) number region.now }
 {
     let earlier = &regions[..number];
     match sharer_of(earlier, region) {

@@ -15,4 +15,10 @@ overflow_add-result-2 c =
 
 pub returns : goal.returns
 unfolding need
-returns c = record { count = rw (c.pages_of-pages.ensures.sum, c.blocks_touched-upper.ensures.count, c.blocks_touched-lower.ensures.count) refl }
+returns c = record {
+  count = rw (
+    c.pages_of-pages.ensures.sum,
+    c.blocks_touched-upper.ensures.count,
+    c.blocks_touched-lower.ensures.count,
+  ) refl;
+}
