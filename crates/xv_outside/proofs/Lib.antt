@@ -1,3 +1,4 @@
 mod Entries
+mod Examples
 mod Tries
 pub mod Told
