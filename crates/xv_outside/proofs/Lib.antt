@@ -1,4 +1,3 @@
 mod Entries
-mod Examples
 mod Tries
 pub mod Told

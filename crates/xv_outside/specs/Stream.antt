@@ -17,8 +17,7 @@ pub record AppendsFront (old new : Option (List ℕ)) (piece : List ℕ) : Type 
   pub whole : front ++ rest ≡ piece
   pub appended : Appends old new front
 
--- n bytes, at most this many, were moved from a reader behind the bytes that were read before; none
--- only at the end
+-- one more read: n bytes, at most this many, behind those that were read before; none is the end
 pub record ReadsOn (old new : Option (List ℕ)) (before after : List ℕ) (most n : ℕ) : Type 0 where
   pub piece : List ℕ
   pub grown : after ≡ before ++ piece
@@ -27,7 +26,7 @@ pub record ReadsOn (old new : Option (List ℕ)) (before after : List ℕ) (most
   pub consumed : Consumes old new piece
   pub ended : n ≡ 0 → IsAtEnd new
 
--- a file was read to its end or one byte past the limit: an answer as to the bytes that it had left
+-- what a read of a whole file answers where the bytes are known that it had left
 abbrev pub IsReadWithin : Option (List ℕ) → ℕ → Fetched → Type 0
 IsReadWithin None limit fetched = Unit {0}
 IsReadWithin (Some left) limit fetched = Tells (Some left) limit fetched
