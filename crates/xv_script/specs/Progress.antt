@@ -1,11 +1,14 @@
--- Words of the program's own contracts: answers that may be want of memory.
-use Rattle.std.specs.Prelude.{◌≡◌, Result, Ok, Err}
+-- Words of the program's own contracts: answers that may be want of memory, and what was read so far.
+use Rattle.std.specs.Prelude.{◌≡◌, ℕ, List, ◌++◌, Option, Result, Ok, Err}
+use Rattle.xv_script.specs.declared.command.Command.{Command}
+use Rattle.xv_script.specs.declared.command.Line.{Line}
 use Rattle.xv_script.specs.declared.fault.LineFault.{LineFault}
 use Rattle.xv_script.specs.declared.fault.LineFault.TheVariants as line
 use Rattle.xv_script.specs.declared.fault.ScriptFault.{ScriptFault}
 use Rattle.xv_script.specs.declared.fault.ScriptFault.TheVariants as script
 use Rattle.xv_script.specs.declared.fault.ScriptKind.{ScriptKind}
-use Rattle.xv_script.specs.Fault.{Fault}
+use Rattle.xv_script.specs.Fault.{◌>>=◌, made_of, Fault, fault_at}
+use Rattle.xv_script.specs.Script.{with_number}
 
 -- a fault of the program is the fault of reading, unless it is want of memory
 abbrev pub FailsInLine : {A : Type 0} → LineFault → Result A ScriptKind → Type 0
@@ -25,3 +28,11 @@ GivesInLine (Err fault) reading = FailsInLine fault reading
 abbrev pub Gives : {X Y : Type 0} → (X → Y) → Result X ScriptFault → Result Y Fault → Type 0
 Gives view (Ok x) reading = reading ≡ Ok (view x)
 Gives view (Err fault) reading = Fails fault reading
+
+-- the commands found so far, and that of the line of this number
+abbrev pub with_line : List Line → ℕ → Result (Option Command) ScriptKind → Result (List Line) Fault
+with_line found number read = fault_at number read >>= λ command. Ok (found ++ with_number number command)
+
+-- the commands found so far, and those that reading gives
+abbrev pub continued : List Line → Result (List Line) Fault → Result (List Line) Fault
+continued found reading = made_of (λ others. found ++ others) reading

@@ -23,6 +23,19 @@ pub record Row : Type 0 where
 abbrev pub row : List ℕ → (fields : List Field) → Maker fields → Row
 row word fields make = record { word = word; fields = fields; make = make }
 
+-- the lines of `guest`, a second word and a guest's name alone
+abbrev pub name_rows : List Row
+name_rows =
+    row (codes "kick") (Guest ∷ []) command.Kick
+    ∷ row (codes "pause") (Guest ∷ []) command.Pause
+    ∷ row (codes "resume") (Guest ∷ []) command.Resume
+    ∷ row (codes "reset") (Guest ∷ []) command.Reset
+    ∷ row (codes "halt") (Guest ∷ []) command.Halt
+    ∷ row (codes "destroy") (Guest ∷ []) command.Destroy
+    ∷ row (codes "digest") (Guest ∷ []) command.Digest
+    ∷ row (codes "audit") (Guest ∷ []) command.Audit
+    ∷ []
+
 -- the lines that begin with `guest`, by their second word
 abbrev pub guest_rows : List Row
 guest_rows =
@@ -30,18 +43,10 @@ guest_rows =
     ∷ row (codes "flat") (Guest ∷ Range 1 most_pages ∷ []) command.Flat
     ∷ row (codes "load") (Guest ∷ Number ∷ File ∷ []) command.Load
     ∷ row (codes "poke") (Guest ∷ Number ∷ Hex ∷ []) command.Poke
-    ∷ row (codes "kick") (Guest ∷ []) command.Kick
-    ∷ row (codes "pause") (Guest ∷ []) command.Pause
-    ∷ row (codes "resume") (Guest ∷ []) command.Resume
-    ∷ row (codes "reset") (Guest ∷ []) command.Reset
-    ∷ row (codes "halt") (Guest ∷ []) command.Halt
-    ∷ row (codes "destroy") (Guest ∷ []) command.Destroy
     ∷ row (codes "regs") (Guest ∷ Number ∷ []) command.Regs
     ∷ row (codes "mem") (Guest ∷ Number ∷ Range 1 most_shown ∷ []) command.Mem
-    ∷ row (codes "digest") (Guest ∷ []) command.Digest
-    ∷ row (codes "audit") (Guest ∷ []) command.Audit
     ∷ row (codes "list") [] command.List
-    ∷ []
+    ∷ name_rows
 
 -- the lines that begin with `vserial`, by their second word
 abbrev pub vserial_rows : List Row

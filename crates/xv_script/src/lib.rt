@@ -7,9 +7,10 @@ mod field;
 mod fields;
 mod line;
 mod script;
+mod text;
 
 
 
 pub use command::{Command, Line};
 pub use fault::{ScriptFault, ScriptKind};
-pub use script::MOST_BYTES;
+pub use script::{MOST_BYTES, parse};
