@@ -6,7 +6,8 @@ ghost use Rattle.xv_script.specs.Progress.{GivesInLine};
 use crate::fault::{LineFault, ScriptKind};
 use std::alloc::Global;
 use xv_base::{
-    Bytes, DevName, FileName, GuestName, dev_name_of, file_name_of, hex_pairs_of, name_of, number_of,
+    Bytes, DevName, FileName, GuestName, dev_name_of, file_name_of, hex_pairs_of, name_of,
+    number_of,
 };
 
 /// A guest's name.

@@ -7,9 +7,9 @@ mod field;
 mod fields;
 mod line;
 mod script;
+#[cfg(test)]
+mod tests;
 mod text;
-
-
 
 pub use command::{Command, Line};
 pub use fault::{ScriptFault, ScriptKind};
