@@ -7,11 +7,13 @@ use Rattle.xv_base.specs.Text.{hex_pairs}
 use Rattle.xv_script.specs.declared.command.Command.{Command}
 use Rattle.xv_script.specs.declared.command.Command.TheVariants as command
 use Rattle.xv_script.specs.declared.command.Line.{Line}
-use Rattle.xv_script.specs.declared.fault.ScriptKind.TheVariants.{Byte, Word, Count, Name, Number, Range, Hex}
+use Rattle.xv_script.specs.declared.fault.ScriptKind.TheVariants.{Byte, Word, Count, Name, Number}
+use Rattle.xv_script.specs.declared.fault.ScriptKind.TheVariants.{Range, Hex}
 use Rattle.xv_script.specs.Fault.{Fault}
-use Rattle.xv_script.specs.Field.{guest_field, file_field, dev_field, port_field, number_field, range_field, hex_field}
-use Rattle.xv_script.specs.Row.{counted, command_of}
-use Rattle.xv_script.specs.Script.{line_of, numbered, commands}
+use Rattle.xv_script.specs.Field.{guest_field, file_field, dev_field, port_field, number_field}
+use Rattle.xv_script.specs.Field.{range_field, hex_field}
+use Rattle.xv_script.specs.Row.{command_by, command_of}
+use Rattle.xv_script.specs.Script.{line_of, commands_from, commands}
 use Rattle.xv_script.specs.Text.{words}
 
 -- a row: a script, and what it gives
@@ -36,9 +38,11 @@ rows =
     ∷ row (codes "guest list") (Ok (line 1 command.List ∷ []))
     -- an empty line, a comment, blanks of both kinds, a carriage return
     ∷ row (script ([] ∷ codes "#~" ∷ (0x09 ∷ codes "guest  kick a " ++ 0x0D ∷ []) ∷ []))
-        (Ok (line 3 (command.Kick (codes "a")) ∷ []))
-    ∷ row (script (codes "vserial input a/b@1 6f" ∷ codes "run 0x186a0" ∷ []))
-        (Ok (line 1 (command.Input (codes "a") (codes "b@1") (0x6F ∷ [])) ∷ line 2 (command.Run 100000) ∷ []))
+    (Ok (line 3 (command.Kick (codes "a")) ∷ []))
+    ∷ row (script (codes "vserial dump a/b@1" ∷ codes "run 0x186a0" ∷ []))
+    (Ok (line 1 (command.Dump (codes "a") (codes "b@1")) ∷ line 2 (command.Run 100000) ∷ []))
+    ∷ row (codes "guest poke a 16 6fF0")
+    (Ok (line 1 (command.Poke (codes "a") 16 (0x6F ∷ 0xF0 ∷ [])) ∷ []))
     -- each kind, and which of two is first
     ∷ row (script (codes "tick 1" ∷ (codes "# " ++ 0x7F ∷ []) ∷ [])) (Err (2, Byte))
     ∷ row (codes "run 1" ++ 0x0D ∷ 0x0D ∷ []) (Err (1, Byte))
@@ -65,7 +69,8 @@ wanted [] = []
 wanted (r ∷ rs) = r.gives ∷ wanted rs
 
 examples : computed rows ≡ wanted rows
-unfolding computed wanted rows row line script commands numbered line_of words command_of counted
-  guest_field file_field dev_field port_field number_field range_field hex_field
-  is_guest_name is_dev_name is_file_name number_value numeral_value hex_pairs
+unfolding computed wanted rows row line script commands commands_from line_of words command_of
+    command_by
+    guest_field file_field dev_field port_field number_field range_field hex_field
+    is_guest_name is_dev_name is_file_name number_value numeral_value hex_pairs
 examples = refl

@@ -1,5 +1,8 @@
--- Lines one after another: what is found so far, continued by the lines that are left, is the whole.
-use Rattle.std.proofs.Common.{◌≡◌, ℕ, ◌+◌, ◌==◌, ◌^◌, ◌<◌, ◌≤◌, Bool, true, false, cond, List, [], ◌∷◌, ◌++◌, length, get_or, drop, Option, Some, None, Result, Ok, Err, refl, sym, ap, ◌∙◌, arith, append_assoc, length-append}
+-- Lines one after another: what is found so far, and then what the lines that are left give, is the
+-- whole.
+use Rattle.std.proofs.Common.{◌≡◌, ℕ, ◌+◌, ◌==◌, ◌^◌, ◌<◌, ◌≤◌, Bool, true, false, cond, List, []}
+use Rattle.std.proofs.Common.{◌∷◌, ◌++◌, length, get_or, drop, Option, Some, None, Result, Ok, Err}
+use Rattle.std.proofs.Common.{refl, sym, ap, ◌∙◌, arith, append_assoc, length-append}
 use Rattle.std.specs.List.{onto_first}
 use Rattle.std.proofs.lemmas.List.{at_drop_more, at_drop_all, append-nil}
 use Rattle.xv_script.specs.declared.command.Command.{Command}
@@ -8,69 +11,93 @@ use Rattle.xv_script.specs.declared.fault.ScriptFault.{ScriptFault}
 use Rattle.xv_script.specs.declared.fault.ScriptFault.TheVariants.{At, NoMemory}
 use Rattle.xv_script.specs.declared.fault.ScriptKind.{ScriptKind}
 use Rattle.xv_script.specs.Fault.{◌>>=◌, made_of, Fault, fault_at}
-use Rattle.xv_script.specs.Progress.{Fails, with_line, continued}
-use Rattle.xv_script.specs.Script.{line_of, with_number, numbered}
+use Rattle.xv_script.specs.Progress.{Fails, with_line, with_front}
+use Rattle.xv_script.specs.Script.{line_of, with_number, commands_from}
 use Rattle.xv_script.specs.Text.{lines, words}
+
+-- what a line gives, and what lines give
+abbrev OfLine : Type 0
+OfLine = Result (Option Command) ScriptKind
+
+abbrev OfLines : Type 0
+OfLines = Result (List Line) Fault
 
 -- ---- one more line
 
 -- what a line and the lines behind it give
-abbrev both_of : ℕ → Result (Option Command) ScriptKind → Result (List Line) Fault → Result (List Line) Fault
-both_of number read others = fault_at number read >>= λ here. (others >>= λ behind. Ok (with_number number here ++ behind))
+abbrev both_of : ℕ → OfLine → OfLines → OfLines
+both_of number read others = do
+  here ← fault_at number read
+  behind ← others
+  Ok (with_number number here ++ behind)
 
-added : (found more : List Line) (number : ℕ) (read : Result (Option Command) ScriptKind) (others : Result (List Line) Fault)
-    → with_line found number read ≡ Ok more → continued found (both_of number read others) ≡ continued more others
+added : (found more : List Line) (number : ℕ) (read : OfLine) (others : OfLines)
+    → with_line found number read ≡ Ok more
+    → with_front found (both_of number read others) ≡ with_front more others
 added found more number (Ok command) (Ok behind) is =
     let grown : found ++ with_number number command ≡ more = cc in
-    ap Ok (sym (append_assoc found (with_number number command) behind) ∙ ap (λ front. front ++ behind) grown)
+    let same = sym (append_assoc found (with_number number command) behind) in
+    ap Ok (same ∙ ap (λ front. front ++ behind) grown)
 added found more number (Ok command) (Err fault) is = refl
 added found more number (Err kind) others is = cc
 
-refused : (found : List Line) (number : ℕ) (read : Result (Option Command) ScriptKind) (others : Result (List Line) Fault) (fault : Fault)
-    → with_line found number read ≡ Err fault → continued found (both_of number read others) ≡ Err fault
+refused : (found : List Line) (number : ℕ) (read : OfLine) (others : OfLines) (fault : Fault)
+    → with_line found number read ≡ Err fault
+    → with_front found (both_of number read others) ≡ Err fault
 refused found number (Ok command) others fault is = cc
 refused found number (Err kind) others fault is = is
 
-fails : (e : ScriptFault) (found : List Line) (number : ℕ) (read : Result (Option Command) ScriptKind) (others : Result (List Line) Fault)
-    → Fails e (with_line found number read) → Fails e (continued found (both_of number read others))
+fails : (e : ScriptFault) (found : List Line) (number : ℕ) (read : OfLine) (others : OfLines)
+    → Fails e (with_line found number read)
+    → Fails e (with_front found (both_of number read others))
 fails (At line kind) found number read others is = refused found number read others (line, kind) is
 fails NoMemory found number read others is = tt
 
--- the lines from a place on are the line there and those behind it
-numbered-line : (all : List (List ℕ)) (at : ℕ) (line : List ℕ) → (at < length all) × (line ≡ get_or all at line)
-    → numbered (at + 1) (drop at all) ≡ both_of (at + 1) (line_of line) (numbered (at + 1 + 1) (drop (at + 1) all))
-unfolding numbered
-numbered-line all at line turn =
-    at_drop_more (numbered (at + 1)) all at line turn.0
-    ∙ ap (λ here. both_of (at + 1) (line_of here) (numbered (at + 1 + 1) (drop (at + 1) all))) (sym turn.1)
+-- what the lines from a place on give
+abbrev from_place : List (List ℕ) → ℕ → OfLines
+from_place all at = commands_from (at + 1) (drop at all)
+
+-- they are the line there and those behind it
+from_place-line : (all : List (List ℕ)) (at : ℕ) (line : List ℕ)
+    → (at < length all) × (line ≡ get_or all at line)
+    → from_place all at ≡ both_of (at + 1) (line_of line) (from_place all (at + 1))
+unfolding commands_from
+from_place-line all at line turn =
+    at_drop_more (commands_from (at + 1)) all at line turn.0
+    ∙ ap (λ here. both_of (at + 1) (line_of here) (from_place all (at + 1))) (sym turn.1)
 
 -- ---- a turn of the loop, at the place that is the count of the lines before
 
-pub next_line : (all : List (List ℕ)) (count at : ℕ) (line : List ℕ) (found more : List Line) (whole : Result (List Line) Fault)
+pub next_line : (all : List (List ℕ)) (count at : ℕ) (line : List ℕ) (found more : List Line)
+    (whole : OfLines)
     → at ≡ count → (count < length all) × (line ≡ get_or all count line)
     → with_line found (at + 1) (line_of line) ≡ Ok more
-    → continued found (numbered (at + 1) (drop at all)) ≡ whole
-    → continued more (numbered (at + 1 + 1) (drop (at + 1) all)) ≡ whole
+    → with_front found (from_place all at) ≡ whole
+    → with_front more (from_place all (at + 1)) ≡ whole
 next_line all count at line found more whole same turn is before =
     let here : (at < length all) × (line ≡ get_or all at line) = rw same turn in
-    sym (added found more (at + 1) (line_of line) (numbered (at + 1 + 1) (drop (at + 1) all)) is)
-    ∙ ap (continued found) (sym (numbered-line all at line here)) ∙ before
+    sym (added found more (at + 1) (line_of line) (from_place all (at + 1)) is)
+    ∙ ap (with_front found) (sym (from_place-line all at line here)) ∙ before
 
-pub fails_at : (e : ScriptFault) (all : List (List ℕ)) (count at : ℕ) (line : List ℕ) (found : List Line) (whole : Result (List Line) Fault)
+pub fails_at : (e : ScriptFault) (all : List (List ℕ)) (count at : ℕ) (line : List ℕ)
+    (found : List Line) (whole : OfLines)
     → at ≡ count → (count < length all) × (line ≡ get_or all count line)
     → Fails e (with_line found (at + 1) (line_of line))
-    → continued found (numbered (at + 1) (drop at all)) ≡ whole
+    → with_front found (from_place all at) ≡ whole
     → Fails e whole
 fails_at e all count at line found whole same turn is before =
     let here : (at < length all) × (line ≡ get_or all at line) = rw same turn in
-    rw (sym (ap (continued found) (sym (numbered-line all at line here)) ∙ before))
-    (fails e found (at + 1) (line_of line) (numbered (at + 1 + 1) (drop (at + 1) all)) is)
+    rw (sym (ap (with_front found) (sym (from_place-line all at line here)) ∙ before))
+    (fails e found (at + 1) (line_of line) (from_place all (at + 1)) is)
 
-pub last_line : (all : List (List ℕ)) (count at : ℕ) (found : List Line) (whole : Result (List Line) Fault)
-    → at ≡ count → count ≡ length all → continued found (numbered (at + 1) (drop at all)) ≡ whole → whole ≡ Ok found
-unfolding numbered
+pub last_line : (all : List (List ℕ)) (count at : ℕ) (found : List Line) (whole : OfLines)
+    → at ≡ count → count ≡ length all → with_front found (from_place all at) ≡ whole
+    → whole ≡ Ok found
+unfolding commands_from
 last_line all count at found whole same end before =
-    sym before ∙ at_drop_all (λ rest. continued found (numbered (at + 1) rest)) all at (omega arith) ∙ ap Ok (append-nil found)
+    sym before
+    ∙ at_drop_all (λ rest. with_front found (commands_from (at + 1) rest)) all at (omega arith)
+    ∙ ap Ok (append-nil found)
 
 -- ---- how many commands there are
 
@@ -85,9 +112,10 @@ with_bytes [] = 0
 with_bytes ([] ∷ pieces) = with_bytes pieces
 with_bytes ((byte ∷ piece) ∷ pieces) = with_bytes pieces + 1
 
-joined : (number : ℕ) (read : Result (Option Command) ScriptKind) (others : Result (List Line) Fault) (all : List Line)
+joined : (number : ℕ) (read : OfLine) (others : OfLines) (all : List Line)
     → both_of number read others ≡ Ok all
-    → (here : Option Command) × (behind : List Line) × (read ≡ Ok here) × (others ≡ Ok behind) × (with_number number here ++ behind ≡ all)
+    → (here : Option Command) × (behind : List Line)
+    × (read ≡ Ok here) × (others ≡ Ok behind) × (with_number number here ++ behind ≡ all)
 joined number (Ok here) (Ok behind) all is = (here, behind, refl, refl, cc)
 joined number (Ok here) (Err fault) all is = cc
 joined number (Err kind) others all is = cc
@@ -96,24 +124,26 @@ length-with_number : (number : ℕ) (here : Option Command) → length (with_num
 length-with_number number None = omega arith
 length-with_number number (Some command) = omega arith
 
-length-numbered : (number : ℕ) (pieces : List (List ℕ)) (all : List Line) → numbered number pieces ≡ Ok all → length all ≤ with_bytes pieces
-unfolding numbered
-length-numbered number [] all is = let none : all ≡ [] = cc in rw none (omega arith)
-length-numbered number ([] ∷ pieces) all is =
-    let parts = joined number (line_of []) (numbered (number + 1) pieces) all is in
+length-commands_from : (number : ℕ) (pieces : List (List ℕ)) (all : List Line)
+    → commands_from number pieces ≡ Ok all → length all ≤ with_bytes pieces
+unfolding commands_from
+length-commands_from number [] all is = let none : all ≡ [] = cc in rw none (omega arith)
+length-commands_from number ([] ∷ pieces) all is =
+    let parts = joined number (line_of []) (commands_from (number + 1) pieces) all is in
     let here : parts.0 ≡ None = cc (line_of-empty) in
     let same : parts.1 ≡ all = rw here at parts.4 in
-    rw (sym same) (length-numbered (number + 1) pieces parts.1 parts.3)
-length-numbered number ((byte ∷ line) ∷ pieces) all is =
-    let parts = joined number (line_of (byte ∷ line)) (numbered (number + 1) pieces) all is in
-    let rest = length-numbered (number + 1) pieces parts.1 parts.3 in
+    rw (sym same) (length-commands_from (number + 1) pieces parts.1 parts.3)
+length-commands_from number ((byte ∷ line) ∷ pieces) all is =
+    let parts = joined number (line_of (byte ∷ line)) (commands_from (number + 1) pieces) all is in
+    let rest = length-commands_from (number + 1) pieces parts.1 parts.3 in
     let one = length-with_number number parts.0 in
     let sum = length-append (with_number number parts.0) parts.1 in
     let same = ap length parts.4 in
     omega (arith, rest, one, sum, same)
 
 -- a byte adds at most one piece that isn't empty
-with_bytes-onto_first : (byte : ℕ) (pieces : List (List ℕ)) → with_bytes (onto_first byte pieces) ≤ with_bytes pieces + 1
+with_bytes-onto_first : (byte : ℕ) (pieces : List (List ℕ))
+    → with_bytes (onto_first byte pieces) ≤ with_bytes pieces + 1
 with_bytes-onto_first byte [] = omega arith
 with_bytes-onto_first byte ([] ∷ pieces) = omega arith
 with_bytes-onto_first byte ((first ∷ piece) ∷ pieces) = omega arith
@@ -126,7 +156,11 @@ with_bytes-more byte most false pieces few = omega (arith, with_bytes-onto_first
 with_bytes-lines : (text : List ℕ) → with_bytes (lines text) ≤ length text
 with_bytes-lines [] = omega arith
 with_bytes-lines (byte ∷ text) =
-    let more = with_bytes-more byte (length text) (byte == 0x0A) (lines text) (with_bytes-lines text) in omega (arith, more)
+    let few = with_bytes-lines text in
+    let more = with_bytes-more byte (length text) (byte == 0x0A) (lines text) few in
+    omega (arith, more)
 
-pub few_lines : (text : List ℕ) (all : List Line) → length text ≤ 1048576 → numbered 1 (lines text) ≡ Ok all → length all ≤ 2 ^ 20
-few_lines text all short is = omega (arith, length-numbered 1 (lines text) all is, with_bytes-lines text)
+pub few_lines : (text : List ℕ) (all : List Line) → length text ≤ 1048576
+    → commands_from 1 (lines text) ≡ Ok all → length all ≤ 2 ^ 20
+few_lines text all short is =
+    omega (arith, length-commands_from 1 (lines text) all is, with_bytes-lines text)

@@ -5,7 +5,8 @@ use Rattle.xv_script.specs.declared.command.Command.{Command}
 use Rattle.xv_script.specs.declared.command.Command.TheVariants.{Flat, Mem, Run}
 use Rattle.xv_script.specs.declared.command.Line.{Line}
 
--- the most pages of a guest, the most bytes of memory that are shown at once, and the most turns of one `run`
+-- the most pages of a guest, the most bytes of memory that are shown at once, and the most turns of
+-- one `run`
 abbrev pub most_pages : ℕ
 most_pages = 131072
 

@@ -1,5 +1,6 @@
 -- The fields of a line: what each is, and what it gives.
-use Rattle.std.specs.Prelude.{ℕ, ◌+◌, ◌==◌, Bool, ◌&&◌, if◌then◌else◌, List, take, drop, position, nat_le, Option, Result, Ok, Err}
+use Rattle.std.specs.Prelude.{ℕ, ◌+◌, ◌==◌, Bool, ◌&&◌, if◌then◌else◌, List, take, drop, position}
+use Rattle.std.specs.Prelude.{nat_le, Option, Result, Ok, Err}
 use Rattle.xv_base.specs.Name.{is_guest_name, is_dev_name, is_file_name}
 use Rattle.xv_base.specs.Number.{number_value}
 use Rattle.xv_base.specs.Text.{hex_pairs}
@@ -66,10 +67,11 @@ Takes (Range least most) Made = ℕ → Made
 Takes Hex Made = List ℕ → Made
 
 -- the same of a word, or the kind of its fault
-abbrev pub given : {Made : Type 0} → (field : Field) → Takes field Made → List ℕ → Result Made ScriptKind
-given Guest make word = made_of make (guest_field word)
-given Port make word = made_of (λ port. make port.0 port.1) (port_field word)
-given File make word = made_of make (file_field word)
-given Number make word = made_of make (number_field word)
-given (Range least most) make word = made_of make (range_field least most word)
-given Hex make word = made_of make (hex_field word)
+abbrev pub field_of : {Made : Type 0} → (field : Field) → Takes field Made → List ℕ
+    → Result Made ScriptKind
+field_of Guest make word = made_of make (guest_field word)
+field_of Port make word = made_of (λ port. make port.0 port.1) (port_field word)
+field_of File make word = made_of make (file_field word)
+field_of Number make word = made_of make (number_field word)
+field_of (Range least most) make word = made_of make (range_field least most word)
+field_of Hex make word = made_of make (hex_field word)

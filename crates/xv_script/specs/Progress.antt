@@ -1,4 +1,5 @@
--- Words of the program's own contracts: answers that may be want of memory, and what was read so far.
+-- Words of the program's own contracts: answers that may be want of memory, and what was read so
+-- far.
 use Rattle.std.specs.Prelude.{◌≡◌, ℕ, List, ◌++◌, Option, Result, Ok, Err}
 use Rattle.xv_script.specs.declared.command.Command.{Command}
 use Rattle.xv_script.specs.declared.command.Line.{Line}
@@ -31,8 +32,10 @@ Gives view (Err fault) reading = Fails fault reading
 
 -- the commands found so far, and that of the line of this number
 abbrev pub with_line : List Line → ℕ → Result (Option Command) ScriptKind → Result (List Line) Fault
-with_line found number read = fault_at number read >>= λ command. Ok (found ++ with_number number command)
+with_line found number read = do
+  command ← fault_at number read
+  Ok (found ++ with_number number command)
 
 -- the commands found so far, and those that reading gives
-abbrev pub continued : List Line → Result (List Line) Fault → Result (List Line) Fault
-continued found reading = made_of (λ others. found ++ others) reading
+abbrev pub with_front : List Line → Result (List Line) Fault → Result (List Line) Fault
+with_front found reading = made_of (λ others. found ++ others) reading

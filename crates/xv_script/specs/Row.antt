@@ -1,5 +1,6 @@
 -- The table of lines: the words that a line begins with, the fields behind them, and its command.
-use Rattle.std.specs.Prelude.{ℕ, ◌==◌, Bool, if◌then◌else◌, List, [], ◌∷◌, length, Result, Ok, Err, codes}
+use Rattle.std.specs.Prelude.{ℕ, ◌==◌, Bool, if◌then◌else◌, List, [], ◌∷◌, length, Result, Ok, Err}
+use Rattle.std.specs.Prelude.{codes}
 use Rattle.std.specs.Str.{bytes_eq}
 use Rattle.xv_script.specs.declared.command.Command.{Command}
 use Rattle.xv_script.specs.declared.command.Command.TheVariants as command
@@ -7,7 +8,7 @@ use Rattle.xv_script.specs.declared.fault.ScriptKind.{ScriptKind}
 use Rattle.xv_script.specs.declared.fault.ScriptKind.TheVariants.{Word, Count}
 use Rattle.xv_script.specs.Command.{most_pages, most_shown, most_turns}
 use Rattle.xv_script.specs.Fault.{◌>>=◌}
-use Rattle.xv_script.specs.Field.{Field, Guest, Port, File, Number, Range, Hex, Takes, given}
+use Rattle.xv_script.specs.Field.{Field, Guest, Port, File, Number, Range, Hex, Takes, field_of}
 
 -- what makes a command of the values of such fields
 abbrev pub Maker : List Field → Type 0
@@ -65,20 +66,26 @@ other_rows =
     ∷ []
 
 -- what is made of words, one for each field, from the left
-abbrev pub filled : (fields : List Field) → Maker fields → List (List ℕ) → Result Command ScriptKind
-filled [] made words = Ok made
-filled (field ∷ fields) make [] = Err Count
-filled (field ∷ fields) make (word ∷ words) = given field make word >>= λ rest. filled fields rest words
+abbrev pub fields_of : (fields : List Field) → Maker fields → List (List ℕ)
+    → Result Command ScriptKind
+fields_of [] made words = Ok made
+fields_of (field ∷ fields) make [] = Err Count
+fields_of (field ∷ fields) make (word ∷ words) = do
+  rest ← field_of field make word
+  fields_of fields rest words
 
 -- the same, where there are as many words as fields
-unfoldable pub counted : (fields : List Field) → Maker fields → List (List ℕ) → Result Command ScriptKind
-counted fields make words = if length words == length fields then filled fields make words else Err Count
+unfoldable pub command_by : (fields : List Field) → Maker fields → List (List ℕ)
+    → Result Command ScriptKind
+command_by fields make words =
+    if length words == length fields then fields_of fields make words else Err Count
 
 -- the command of the row with this word, of the words behind it
 abbrev pub command_with : List Row → List ℕ → List (List ℕ) → Result Command ScriptKind
 command_with [] word words = Err Word
 command_with (row ∷ others) word words =
-    if bytes_eq word row.word then counted row.fields row.make words else command_with others word words
+    if bytes_eq word row.word then command_by row.fields row.make words
+    else command_with others word words
 
 -- the same, where the word is the first of the words
 abbrev pub command_in : List Row → List (List ℕ) → Result Command ScriptKind

@@ -1,9 +1,10 @@
 -- Lines and words of a script.
-use Rattle.std.specs.Prelude.{ℕ, ◌==◌, nat_eq, nat_le, Bool, true, not, ◌&&◌, ◌||◌, List, [], ◌∷◌, length, filter, codes}
+use Rattle.std.specs.Prelude.{ℕ, ◌==◌, nat_eq, nat_le, Bool, true, not, ◌&&◌, ◌||◌, List, [], ◌∷◌}
+use Rattle.std.specs.Prelude.{length, filter, codes}
 use Rattle.std.specs.List.{slice_split, starts_with}
 
--- what stands before, between and behind the line feeds: what is behind the last is a line too, which is
--- a comment where it is empty
+-- what stands before, between and behind the line feeds: what is behind the last is a line too, and
+-- where it is empty it is a comment
 abbrev pub lines : List ℕ → List (List ℕ)
 lines text = slice_split (λ byte. byte == 0x0A) text
 

@@ -1,6 +1,7 @@
 //! The fields of a line.
 ghost use Rattle.std.specs.Prelude.{◌≡◌, ◌≤◌, IfOk, position};
-ghost use Rattle.xv_script.specs.Field.{guest_field, dev_field, is_slash, port_field, file_field, number_field, range_field, hex_field};
+ghost use Rattle.xv_script.specs.Field.{guest_field, dev_field, is_slash, port_field, file_field};
+ghost use Rattle.xv_script.specs.Field.{number_field, range_field, hex_field};
 ghost use Rattle.xv_script.specs.Progress.{GivesInLine};
 
 use crate::fault::{LineFault, ScriptKind};

@@ -4,7 +4,7 @@ ghost use Rattle.xv_script.specs.Command.{most_pages, most_shown, most_turns, Is
 ghost use Rattle.xv_script.specs.Fault.{made_of};
 ghost use Rattle.xv_script.specs.Field.{Guest, Port, File, Number, Range, Hex};
 ghost use Rattle.xv_script.specs.Progress.{GivesInLine};
-ghost use Rattle.xv_script.specs.Row.{counted};
+ghost use Rattle.xv_script.specs.Row.{command_by};
 
 use crate::command::Command;
 use crate::fault::{LineFault, ScriptKind};
@@ -22,10 +22,10 @@ const MOST_SHOWN: u32 = 4096;
 const MOST_TURNS: u32 = 100_000;
 
 /// `guest create N FILE`
-#[tactic(auto, unfolding(crate::specs::Row::counted))]
+#[tactic(auto, unfolding(crate::specs::Row::command_by))]
 pub(crate) fn create(fields: &[&[u8]]) -> Result<Command, LineFault>
     ensures exact { GivesInLine result
-        (counted (Guest ∷ File ∷ []) Command.Create (map (λ word. word.now) fields.now)) }
+        (command_by (Guest ∷ File ∷ []) Command.Create (map (λ word. word.now) fields.now)) }
     ensures range { IfOk result IsInRange }
 {
     let [name, file] = fields else {
@@ -37,10 +37,11 @@ pub(crate) fn create(fields: &[&[u8]]) -> Result<Command, LineFault>
 }
 
 /// `guest flat N PAGES`
-#[tactic(auto, unfolding(crate::specs::Row::counted))]
+#[tactic(auto, unfolding(crate::specs::Row::command_by))]
 pub(crate) fn flat(fields: &[&[u8]]) -> Result<Command, LineFault>
     ensures exact { GivesInLine result
-        (counted (Guest ∷ Range 1 most_pages ∷ []) Command.Flat (map (λ word. word.now) fields.now)) }
+        (command_by (Guest ∷ Range 1 most_pages ∷ []) Command.Flat
+        (map (λ word. word.now) fields.now)) }
     ensures range { IfOk result IsInRange }
 {
     let [name, pages] = fields else {
@@ -52,10 +53,10 @@ pub(crate) fn flat(fields: &[&[u8]]) -> Result<Command, LineFault>
 }
 
 /// The name where the fields are one guest's name alone.
-#[tactic(auto, unfolding(crate::specs::Row::counted))]
+#[tactic(auto, unfolding(crate::specs::Row::command_by))]
 pub(crate) fn one_guest(fields: &[&[u8]]) -> Result<GuestName, ScriptKind>
     ensures { (make : List ℕ → Command) →
-        counted (Guest ∷ []) make (map (λ word. word.now) fields.now) ≡ made_of make result }
+        command_by (Guest ∷ []) make (map (λ word. word.now) fields.now) ≡ made_of make result }
 {
     let [name] = fields else {
         return Err(ScriptKind::Count);
@@ -64,10 +65,10 @@ pub(crate) fn one_guest(fields: &[&[u8]]) -> Result<GuestName, ScriptKind>
 }
 
 /// `guest load N GPA FILE`
-#[tactic(auto, unfolding(crate::specs::Row::counted))]
+#[tactic(auto, unfolding(crate::specs::Row::command_by))]
 pub(crate) fn load(fields: &[&[u8]]) -> Result<Command, LineFault>
     ensures exact { GivesInLine result
-        (counted (Guest ∷ Number ∷ File ∷ []) Command.Load (map (λ word. word.now) fields.now)) }
+        (command_by (Guest ∷ Number ∷ File ∷ []) Command.Load (map (λ word. word.now) fields.now)) }
     ensures range { IfOk result IsInRange }
 {
     let [name, gpa, file] = fields else {
@@ -80,10 +81,10 @@ pub(crate) fn load(fields: &[&[u8]]) -> Result<Command, LineFault>
 }
 
 /// `guest poke N GPA HEX`
-#[tactic(auto, unfolding(crate::specs::Row::counted))]
+#[tactic(auto, unfolding(crate::specs::Row::command_by))]
 pub(crate) fn poke(alloc: Global, fields: &[&[u8]]) -> Result<Command, LineFault>
     ensures exact { GivesInLine result
-        (counted (Guest ∷ Number ∷ Hex ∷ []) Command.Poke (map (λ word. word.now) fields.now)) }
+        (command_by (Guest ∷ Number ∷ Hex ∷ []) Command.Poke (map (λ word. word.now) fields.now)) }
     ensures range { IfOk result IsInRange }
 {
     let [name, gpa, hex] = fields else {
@@ -96,10 +97,10 @@ pub(crate) fn poke(alloc: Global, fields: &[&[u8]]) -> Result<Command, LineFault
 }
 
 /// `guest regs N V`
-#[tactic(auto, unfolding(crate::specs::Row::counted))]
+#[tactic(auto, unfolding(crate::specs::Row::command_by))]
 pub(crate) fn regs(fields: &[&[u8]]) -> Result<Command, LineFault>
     ensures exact { GivesInLine result
-        (counted (Guest ∷ Number ∷ []) Command.Regs (map (λ word. word.now) fields.now)) }
+        (command_by (Guest ∷ Number ∷ []) Command.Regs (map (λ word. word.now) fields.now)) }
     ensures range { IfOk result IsInRange }
 {
     let [name, vcpu] = fields else {
@@ -111,10 +112,11 @@ pub(crate) fn regs(fields: &[&[u8]]) -> Result<Command, LineFault>
 }
 
 /// `guest mem N GPA LEN`
-#[tactic(auto, unfolding(crate::specs::Row::counted))]
+#[tactic(auto, unfolding(crate::specs::Row::command_by))]
 pub(crate) fn mem(fields: &[&[u8]]) -> Result<Command, LineFault>
     ensures exact { GivesInLine result
-        (counted (Guest ∷ Number ∷ Range 1 most_shown ∷ []) Command.Mem (map (λ word. word.now) fields.now)) }
+        (command_by (Guest ∷ Number ∷ Range 1 most_shown ∷ []) Command.Mem
+        (map (λ word. word.now) fields.now)) }
     ensures range { IfOk result IsInRange }
 {
     let [name, gpa, len] = fields else {
@@ -127,10 +129,10 @@ pub(crate) fn mem(fields: &[&[u8]]) -> Result<Command, LineFault>
 }
 
 /// `vserial input N/DEV HEX`
-#[tactic(auto, unfolding(crate::specs::Row::counted))]
+#[tactic(auto, unfolding(crate::specs::Row::command_by))]
 pub(crate) fn input(alloc: Global, fields: &[&[u8]]) -> Result<Command, LineFault>
     ensures exact { GivesInLine result
-        (counted (Port ∷ Hex ∷ []) Command.Input (map (λ word. word.now) fields.now)) }
+        (command_by (Port ∷ Hex ∷ []) Command.Input (map (λ word. word.now) fields.now)) }
     ensures range { IfOk result IsInRange }
 {
     let [port, hex] = fields else {
@@ -142,10 +144,10 @@ pub(crate) fn input(alloc: Global, fields: &[&[u8]]) -> Result<Command, LineFaul
 }
 
 /// `vserial dump N/DEV`
-#[tactic(auto, unfolding(crate::specs::Row::counted))]
+#[tactic(auto, unfolding(crate::specs::Row::command_by))]
 pub(crate) fn dump(fields: &[&[u8]]) -> Result<Command, LineFault>
     ensures exact { GivesInLine result
-        (counted (Port ∷ []) Command.Dump (map (λ word. word.now) fields.now)) }
+        (command_by (Port ∷ []) Command.Dump (map (λ word. word.now) fields.now)) }
     ensures range { IfOk result IsInRange }
 {
     let [port] = fields else {
@@ -156,10 +158,10 @@ pub(crate) fn dump(fields: &[&[u8]]) -> Result<Command, LineFault>
 }
 
 /// `run T`
-#[tactic(auto, unfolding(crate::specs::Row::counted))]
+#[tactic(auto, unfolding(crate::specs::Row::command_by))]
 pub(crate) fn run(fields: &[&[u8]]) -> Result<Command, LineFault>
     ensures exact { GivesInLine result
-        (counted (Range 1 most_turns ∷ []) Command.Run (map (λ word. word.now) fields.now)) }
+        (command_by (Range 1 most_turns ∷ []) Command.Run (map (λ word. word.now) fields.now)) }
     ensures range { IfOk result IsInRange }
 {
     let [turns] = fields else {
@@ -170,10 +172,10 @@ pub(crate) fn run(fields: &[&[u8]]) -> Result<Command, LineFault>
 }
 
 /// The number where the fields are one number alone.
-#[tactic(auto, unfolding(crate::specs::Row::counted))]
+#[tactic(auto, unfolding(crate::specs::Row::command_by))]
 pub(crate) fn one_number(fields: &[&[u8]]) -> Result<u64, ScriptKind>
     ensures { (make : ℕ → Command) →
-        counted (Number ∷ []) make (map (λ word. word.now) fields.now) ≡ made_of make result }
+        command_by (Number ∷ []) make (map (λ word. word.now) fields.now) ≡ made_of make result }
 {
     let [value] = fields else {
         return Err(ScriptKind::Count);
@@ -182,10 +184,10 @@ pub(crate) fn one_number(fields: &[&[u8]]) -> Result<u64, ScriptKind>
 }
 
 /// Sees that there are no fields.
-#[tactic(auto, unfolding(crate::specs::Row::counted))]
+#[tactic(auto, unfolding(crate::specs::Row::command_by))]
 pub(crate) fn no_field(fields: &[&[u8]]) -> Result<(), ScriptKind>
     ensures { (made : Command) →
-        counted [] made (map (λ word. word.now) fields.now) ≡ made_of (λ _. made) result }
+        command_by [] made (map (λ word. word.now) fields.now) ≡ made_of (λ _. made) result }
 {
     if fields.is_empty() {
         Ok(())

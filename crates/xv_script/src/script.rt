@@ -2,7 +2,7 @@
 ghost use Rattle.std.specs.Prelude.{◌≡◌, ◌≤◌, ◌^◌, length, IfOk, OnOk};
 ghost use Rattle.xv_script.specs.Command.{AreInRange};
 ghost use Rattle.xv_script.specs.Progress.{Gives, with_line};
-ghost use Rattle.xv_script.specs.Script.{line_of, numbered, most_bytes, commands};
+ghost use Rattle.xv_script.specs.Script.{line_of, commands_from, most_bytes, commands};
 ghost use Rattle.xv_script.specs.Text.{lines};
 
 use crate::command::Line;
@@ -28,13 +28,13 @@ pub fn parse(alloc: Global, bytes: &[u8]) -> Result<Vec<Line>, ScriptFault>
             kind: ScriptKind::Long,
         });
     }
-    numbered(alloc, bytes)
+    commands_of(alloc, bytes)
 }
 
 /// The commands of the lines of a text.
-fn numbered(alloc: Global, text: &[u8]) -> Result<Vec<Line>, ScriptFault>
+fn commands_of(alloc: Global, text: &[u8]) -> Result<Vec<Line>, ScriptFault>
     requires { length text.now ≤ most_bytes }
-    ensures exact { Gives (λ all. all.items) result (numbered 1 (lines text.now)) }
+    ensures exact { Gives (λ all. all.items) result (commands_from 1 (lines text.now)) }
     ensures range { IfOk result (λ all. AreInRange all.items) }
     ensures few { IfOk result (λ all. length all.items ≤ 2 ^ 20) }
 {
