@@ -10,7 +10,7 @@ use Rattle.xv_script.specs.declared.command.Line.{Line}
 use Rattle.xv_script.specs.declared.fault.ScriptFault.{ScriptFault}
 use Rattle.xv_script.specs.declared.fault.ScriptFault.TheVariants.{At, NoMemory}
 use Rattle.xv_script.specs.declared.fault.ScriptKind.{ScriptKind}
-use Rattle.xv_script.specs.Fault.{◌>>=◌, made_of, Fault, fault_at}
+use Rattle.xv_script.specs.Fault.{◌>>=◌, Fault, fault_at}
 use Rattle.xv_script.specs.Progress.{Fails, with_line, with_front}
 use Rattle.xv_script.specs.Script.{line_of, with_number, commands_from}
 use Rattle.xv_script.specs.Text.{lines, words}

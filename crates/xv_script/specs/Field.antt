@@ -1,6 +1,6 @@
 -- The fields of a line: what each is, and what it gives.
 use Rattle.std.specs.Prelude.{ℕ, ◌+◌, ◌==◌, Bool, ◌&&◌, if◌then◌else◌, List, take, drop, position}
-use Rattle.std.specs.Prelude.{nat_le, Option, Result, Ok, Err}
+use Rattle.std.specs.Prelude.{nat_le, Result, Ok, Err}
 use Rattle.xv_base.specs.Name.{is_guest_name, is_dev_name, is_file_name}
 use Rattle.xv_base.specs.Number.{number_value}
 use Rattle.xv_base.specs.Text.{hex_pairs}
