@@ -76,6 +76,8 @@ fn ranges_in_pairs(rt: HostRuntime) -> Result<(), Fail> {
         };
         let mut pool = Pool::new(rt.alloc(), 64, 1, AREA)?;
         pool.take_reserved(range)?;
+        pool.give_reserved(range);
+        pool.take_reserved(range)?;
         assert_eq!(rt; pool.test(1, &[other]), answer, "{start} {other_start}");
     }
     Ok(())
@@ -99,9 +101,7 @@ fn as_many_ranges_as_there_are_regions(rt: HostRuntime) -> Result<(), Fail> {
         start: 512 * 4096,
         len: 1,
     };
-    assert_eq!(rt; pool.test(1, &[behind, last]), Err(PoolFault::ReservedBusy));
-    pool.take_reserved(behind)?;
-    pool.give_reserved(behind);
     assert_eq!(rt; pool.test(1, &[behind]), Ok(()));
+    assert_eq!(rt; pool.test(1, &[behind, last]), Err(PoolFault::ReservedBusy));
     Ok(())
 }
