@@ -224,24 +224,19 @@ fn least_tree_cut_anywhere(rt: HostRuntime) -> Result<(), Fail> {
     Ok(())
 }
 
-fn filled(alloc: Global, byte: u8, len: usize) -> Result<Vec<u8>, AllocError> {
-    vec![in alloc; byte; len]
-}
-
 /// The length of a name, and whether it is one.
 const NAMES: [(usize, bool); 4] = [(0, true), (1, true), (63, true), (64, false)];
 
 #[test]
 fn limits_of_length_and_names(rt: HostRuntime) -> Result<(), Fail> {
-    let long = filled(rt.alloc(), 0, 1_048_577)?;
+    let long = vec![in rt.alloc(); 0; 1_048_577]?;
     assert_eq!(rt; fault_of(rt.alloc(), &long)?, Some((FdtKind::TooBig, 0)));
 
+    let letters = [b'a'; 64];
     for (len, is_name) in NAMES {
-        let letters = filled(rt.alloc(), b'a', len)?;
-        match NodeName::of(&letters) {
-            Some(name) => assert!(rt; is_name && same(name.bytes(), &letters), "{len}"),
-            None => assert!(rt; !is_name, "{len}"),
-        }
+        assert!(rt; len <= 64);
+        let given = NodeName::of(&letters[..len]).is_some();
+        assert_eq!(rt; given, is_name, "{len}");
     }
     Ok(())
 }
