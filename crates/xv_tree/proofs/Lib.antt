@@ -1,0 +1,5 @@
+pub mod ChildLemmas
+pub mod SoundLemmas
+pub mod PlanLemmas
+pub mod ValueLemmas
+pub mod Examples
