@@ -7,6 +7,8 @@ mod kind;
 mod plan;
 mod regions;
 mod sort;
+#[cfg(test)]
+mod tests;
 mod values;
 mod vcpus;
 
