@@ -7,8 +7,6 @@ mod kind;
 mod plan;
 mod regions;
 mod sort;
-#[cfg(test)]
-mod tests;
 mod values;
 mod vcpus;
 
