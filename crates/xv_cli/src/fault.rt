@@ -12,6 +12,8 @@ pub enum Fault {
     Read,
     #[error("xv: write fault")]
     Write,
+    #[error("xv: file fault")]
+    File,
     #[error("xv: no memory")]
     NoMemory,
 }
@@ -24,6 +26,7 @@ impl Fault {
             3 => Some(Fault::Script),
             4 => Some(Fault::Read),
             5 => Some(Fault::Write),
+            6 => Some(Fault::File),
             7 => Some(Fault::NoMemory),
             _ => None,
         }

@@ -1,25 +1,33 @@
--- The script that a source has, and the text that is read of it.
-use Rattle.std.proofs.Common.{◌≡◌, ℕ, ◌<◌, ◌≤◌, false, cond, leb, List, [], ◌∷◌, length, take, map}
-use Rattle.std.proofs.Common.{get_or, Option, Some, None, subst, refl, sym, ap, ◌∙◌, arith}
-use Rattle.std.proofs.Common.{inl, inr, ◌⊎◌}
+-- The script that a source has, the text that is read of it, and what stands at each status.
+use Rattle.std.proofs.Common.{◌≡◌, ℕ, ◌<◌, ◌≤◌, false, cond, leb, List, [], ◌∷◌, ◌++◌, length, take}
+use Rattle.std.proofs.Common.{map, get_or, Option, Some, None, Result, Ok, Err, subst, refl, sym}
+use Rattle.std.proofs.Common.{ap}
+use Rattle.std.proofs.Common.{◌∙◌, arith, inl, inr, ◌⊎◌, IsTrue}
 use Rattle.std.proofs.lemmas.Bool.Decides.{nat_tests}
 use Rattle.std.proofs.lemmas.Bool.{cases_lt}
 use Rattle.std.proofs.lemmas.List.{take_all, drop_all, length-take}
-use Rattle.xv_base.specs.Fault.{Rose}
+use Rattle.xv_outside.specs.Fetch.{FileMap}
 use Rattle.xv_outside.specs.Outside.{left_after, taken_with, TookFront}
-use Rattle.xv_top.specs.declared.command.Command.{Command}
-use Rattle.xv_top.specs.declared.manager.Manager.{Manager}
+use Rattle.xv_script.specs.declared.command.Line.{Line}
+use Rattle.xv_script.specs.declared.fault.ScriptKind.TheVariants as kind
+use Rattle.xv_script.specs.Fault.{Fault}
+use Rattle.xv_script.specs.Script.{commands, commands_from}
+use Rattle.xv_script.specs.Text.{lines}
 use Rattle.xv_hart.specs.declared.machine.Machine.{Machine}
+use Rattle.xv_hart.specs.Hart.{taken_by}
 use Rattle.xv_hart.specs.Machine.{area_of}
-use Rattle.xv_top.specs.World.{World, first_world}
+use Rattle.xv_top.specs.declared.manager.Manager.{Manager}
+use Rattle.xv_top.specs.Boot.{IsTextOf, IsScriptOf, Holds, IsServed, IsRun, IsNoScript, IsRefused}
+use Rattle.xv_top.specs.Boot.{IsStoppedIn, IsStopped, IsCutLine, IsCutRefusal, IsCutIn, IsCutShort}
+use Rattle.xv_top.specs.Boot.{HoldsWorld, emptied, most_read}
+use Rattle.xv_top.specs.Commands.{answer, is_fetching}
+use Rattle.xv_top.specs.Layout.{memory_size}
 use Rattle.xv_top.specs.Manager.{world_of, guests_of}
-use Rattle.xv_top.specs.Script.{commands, commands_of, lines}
+use Rattle.xv_top.specs.Run.{HaveRun, IsStop, IsCut}
 use Rattle.xv_top.specs.Texts.{script_text}
 use Rattle.xv_top.specs.Transcript.{answers, world_after, work_after, transcript, transcript_of}
-use Rattle.xv_top.specs.Layout.{memory_size, pool_frames}
+use Rattle.xv_top.specs.World.{World, first_world}
 use Rattle.xv_top.proofs.JournalLemmas.{replayed}
-use Rattle.xv_top.specs.Boot.{IsTextOf, IsScriptOf, AllRan, IsServed, IsRun, IsRefused, IsCutShort}
-use Rattle.xv_top.specs.Boot.{HoldsWorld, emptied, most_read}
 
 cases_le : (m n : ℕ) → (m ≤ n) ⊎ (n < m)
 cases_le m n = swap (cases_lt n m)
@@ -28,15 +36,15 @@ cases_le m n = swap (cases_lt n m)
     swap (inl more) = inr more
     swap (inr few) = inl few
 
--- a script of more bytes than a script may have has no commands
-commands_long : (text : List ℕ) → 1048576 < length text → commands text ≡ None
+-- a script of more bytes than a script may have is refused at once
+commands_long : (text : List ℕ) → 1048576 < length text → commands text ≡ Err (0, kind.Long)
 unfolding commands
 commands_long text long = let no : leb (length text) 1048576 ≡ false = grind (arith, nat_tests) in
-    ap (λ b. cond b (commands_of (lines text)) None) no
+    ap (λ b. cond b (commands_from 1 (lines text)) (Err (0, kind.Long))) no
 
-pub commands_short : (text : List ℕ) (cs : List Command) → commands text ≡ Some cs
+commands_short : (text : List ℕ) (ls : List Line) → commands text ≡ Ok ls
     → length text ≤ 1048576
-commands_short text cs some = short (cases_le (length text) 1048576)
+commands_short text ls some = short (cases_le (length text) 1048576)
   where
     short : (length text ≤ 1048576) ⊎ (1048576 < length text) → length text ≤ 1048576
     short (inl few) = few
@@ -57,40 +65,36 @@ abbrev pub script_of : Option (List ℕ) → List ℕ → List ℕ
 script_of None text = text
 script_of (Some script) text = script
 
-pub script_told : (left : Option (List ℕ)) (text : List ℕ) → IsScriptOf left (script_of left text)
+script_told : (left : Option (List ℕ)) (text : List ℕ) → IsScriptOf left (script_of left text)
 script_told None text = tt
 script_told (Some script) text = refl
 
-pub commands_same : (left : Option (List ℕ)) (text : List ℕ) → IsTextOf left text
+commands_same : (left : Option (List ℕ)) (text : List ℕ) → IsTextOf left text
     → commands text ≡ commands (script_of left text)
 commands_same None text told = refl
 commands_same (Some script) text told = ap commands told ∙ commands_take script
 
-pub transcript_same : (mib : ℕ) (left : Option (List ℕ)) (text : List ℕ) → IsTextOf left text
-    → transcript mib text ≡ transcript mib (script_of left text)
+transcript_same : (mib : ℕ) (files : FileMap) (left : Option (List ℕ)) (text : List ℕ)
+    → IsTextOf left text → transcript mib files text ≡ transcript mib files (script_of left text)
 unfolding transcript
-transcript_same mib left text told = ap (transcript_of mib) (commands_same left text told)
+transcript_same mib files left text told =
+    ap (transcript_of mib files) (commands_same left text told)
 
 -- a script that has commands was read to its end
-pub nothing_left : (left : Option (List ℕ)) (text : List ℕ) (cs : List Command) → IsTextOf left text
-    → commands text ≡ Some cs → left_after left most_read ≡ emptied left
-nothing_left None text cs told some = refl
-nothing_left (Some script) text cs told some =
+nothing_left : (left : Option (List ℕ)) (text : List ℕ) (ls : List Line) → IsTextOf left text
+    → commands text ≡ Ok ls → left_after left most_read ≡ emptied left
+nothing_left None text ls told some = refl
+nothing_left (Some script) text ls told some =
     ap Some (drop_all most_read script
     (omega (
       arith,
-      commands_short script cs (sym (commands_same (Some script) text told) ∙ some),
+      commands_short script ls (sym (commands_same (Some script) text told) ∙ some),
     )))
 
-pub transcript_some : (mib : ℕ) (text : List ℕ) (cs : List Command) → commands text ≡ Some cs
-    → transcript mib text ≡ answers (first_world (pool_frames mib)) cs
+transcript_some : (mib : ℕ) (files : FileMap) (text : List ℕ) (ls : List Line)
+    → commands text ≡ Ok ls → transcript mib files text ≡ answers files (first_world mib) ls
 unfolding transcript transcript_of
-transcript_some mib text cs some = ap (transcript_of mib) some
-
-pub transcript_none : (mib : ℕ) (text : List ℕ) → commands text ≡ None
-    → transcript mib text ≡ script_text
-unfolding transcript transcript_of
-transcript_none mib text none = ap (transcript_of mib) none
+transcript_some mib files text ls some = ap (transcript_of mib files) some
 
 -- host memory holds the world that the manager keeps
 pub holds_world : (m : Manager) (bytes : List ℕ) → HoldsWorld bytes (world_of m bytes).guests
@@ -103,68 +107,139 @@ one_word f [] word one here = cc
 one_word f (w ∷ []) word one here = ap (λ x. f x ∷ []) (sym here)
 one_word f (w ∷ v ∷ more) word one here = cc
 
--- what stands at each end, by the text that was read
+-- what stands at each status, by the text that was read
 module _ (mib : ℕ) (left_old left_new taken_old taken_new : Option (List ℕ)) (text : List ℕ)
-    (told : IsTextOf left_old text) where
-  pub run_is : (machine : Machine) → left_new ≡ left_after left_old most_read
-      → IsServed mib text taken_old taken_new machine
-      → IsRun mib left_old left_new taken_old taken_new machine
-  run_is machine left served = record {
+    (told : IsTextOf left_old text) (machine : Machine) where
+  same : commands (script_of left_old text) ≡ commands text
+  same = sym (commands_same left_old text told)
+
+  pub run_is : (files : FileMap) → left_new ≡ left_after left_old most_read
+      → IsServed mib files text taken_old taken_new machine
+      → IsRun mib files left_old left_new taken_old taken_new machine
+  run_is files left served = record {
     script = script_of left_old text;
     told = script_told left_old text;
-    left = left ∙ nothing_left left_old text served.cs told served.grammar;
+    left = left ∙ nothing_left left_old text served.lines told served.grammar;
     served = record {
-      cs = served.cs;
-      grammar = sym (commands_same left_old text told) ∙ served.grammar;
-      taken = served.taken ∙ ap (taken_with taken_old) (transcript_same mib left_old text told);
-      size = served.size;
-      area = served.area;
-      memory = served.memory;
-      journals = served.journals;
-      stepped = served.stepped;
+      lines = served.lines;
+      grammar = same ∙ served.grammar;
+      taken = served.taken ∙ ap (taken_with taken_old) (transcript_same mib files left_old text
+          told);
+      holds = served.holds;
     };
   }
 
-  pub refused_is : left_new ≡ left_after left_old most_read → commands text ≡ None → taken_new
-      ≡ taken_with taken_old script_text → IsRefused left_old left_new taken_old taken_new
-  refused_is left none taken = record {
+  pub refused_is : left_new ≡ left_after left_old most_read → IsNoScript text taken_old taken_new
+      → IsRefused left_old left_new taken_old taken_new
+  refused_is left refused = record {
     script = script_of left_old text;
     told = script_told left_old text;
-    grammar = sym (commands_same left_old text told) ∙ none;
     left = left;
-    taken = taken;
+    refused = record {
+      line = refused.line;
+      kind = refused.kind;
+      grammar = same ∙ refused.grammar;
+      taken = refused.taken;
+    };
   }
 
-  pub cut_is : (faults_old faults_new : ℕ) → TookFront taken_old taken_new (transcript mib text)
-      → Rose faults_old faults_new
-      → IsCutShort mib left_old taken_old taken_new faults_old faults_new
-  cut_is faults_old faults_new front rose = record {
+  pub stopped_is : (files : FileMap) → IsStoppedIn mib files text taken_old taken_new machine
+      → IsStopped mib files left_old taken_old taken_new machine
+  stopped_is files stopped = record {
     script = script_of left_old text;
     told = script_told left_old text;
-    taken = subst (TookFront taken_old taken_new) (transcript_same mib left_old text told) front;
-    cause = rose;
+    stopped = record {
+      at = record {
+        before = stopped.at.before;
+        line = stopped.at.line;
+        after = stopped.at.after;
+        grammar = same ∙ stopped.at.grammar;
+      };
+      fetching = stopped.fetching;
+      taken = stopped.taken;
+      holds = stopped.holds;
+    };
   }
 
--- what the commands of a script do, by what the run of them ensures
-module _ (mib : ℕ) (text : List ℕ) (cs all : List Command) (w : World) (grammar : commands text
-    ≡ Some cs) (same : all ≡ cs) (start : w ≡ first_world (pool_frames mib)) where
-  pub answers_are : answers w all ≡ transcript mib text
-  answers_are =
-      ap (answers w) same
-      ∙ (ap (λ x. answers x cs) start ∙ sym (transcript_some mib text cs grammar))
-
-  pub served_is : (taken_old taken_new : Option (List ℕ)) (before machine : Machine) (m : Manager)
-      → length before.mem ≡ memory_size mib → before.area ≡ area_of mib 0
-      → AllRan all w (world_of m machine.mem) taken_old taken_new before machine
-      → IsServed mib text taken_old taken_new machine
-  served_is taken_old taken_new before machine m size area ran = record {
-    cs = cs;
-    grammar = grammar;
-    taken = ran.taken ∙ ap (taken_with taken_old) answers_are;
-    size = ran.size ∙ size;
-    area = ran.area ∙ area;
-    memory = subst (λ x. HoldsWorld machine.mem x.guests) (ran.world
-        ∙ (ap (world_after w) same ∙ ap (λ x. world_after x cs) start)) (holds_world m machine.mem);
-    journals = replayed (pool_frames mib) cs;
-    stepped = omega (arith, ran.work, ap (work_after w) same, ap (λ x. work_after x cs) start);
+  pub cut_is : (files : FileMap) → IsCutIn mib files text taken_old taken_new machine
+      → IsCutShort mib files left_old taken_old taken_new machine
+  cut_is files cut = record {
+    script = script_of left_old text;
+    told = script_told left_old text;
+    cut = cut_in cut;
   }
+    where
+      cut_in : IsCutIn mib files text taken_old taken_new machine
+          → IsCutIn mib files (script_of left_old text) taken_old taken_new machine
+      cut_in (inl line) = inl (record {
+        at = record {
+          before = line.at.before;
+          line = line.at.line;
+          after = line.at.after;
+          grammar = same ∙ line.at.grammar;
+        };
+        taken = line.taken;
+        holds = line.holds;
+      })
+      cut_in (inr refusal) = inr (record {
+        line = refusal.line;
+        kind = refusal.kind;
+        grammar = same ∙ refusal.grammar;
+        taken = refusal.taken;
+      })
+
+-- what the lines of a script do, by what the run of them ensures
+module _ (mib : ℕ) (files : FileMap) (text : List ℕ) (ls all : List Line) (w : World)
+    (grammar : commands text ≡ Ok ls) (same : all ≡ ls) (start : w ≡ first_world mib)
+    (taken_old taken_new : Option (List ℕ)) (before machine : Machine) (m : Manager)
+    (size : length machine.mem ≡ memory_size mib) (area : machine.area ≡ area_of mib 0) where
+  holds : (done : List Line) → world_of m machine.mem ≡ world_after files w done
+      → work_after files w done ≤ taken_by machine.hart → Holds mib files done machine
+  holds done world work = record {
+    size = size;
+    area = area;
+    memory = subst (λ x. HoldsWorld machine.mem x.guests)
+        (world ∙ ap (λ x. world_after files x done) start) (holds_world m machine.mem);
+    journals = replayed mib files done;
+    stepped = omega (arith, work, ap (λ x. work_after files x done) start);
+  }
+
+  pub served_is : HaveRun files all w (world_of m machine.mem) taken_old taken_new
+      (taken_by machine.hart) → IsServed mib files text taken_old taken_new machine
+  served_is run = record {
+    lines = all;
+    grammar = grammar ∙ ap Ok (sym same);
+    taken = run.taken ∙ ap (taken_with taken_old) (ap (λ x. answers files x all) start
+        ∙ sym (transcript_some mib files text all (grammar ∙ ap Ok (sym same))));
+    holds = holds all run.world run.work;
+  }
+
+  pub stop_is : IsStop files all w (world_of m machine.mem) taken_old taken_new
+      (taken_by machine.hart) → IsStoppedIn mib files text taken_old taken_new machine
+  stop_is stop = record {
+    at = record {
+      before = stop.before;
+      line = stop.line;
+      after = stop.after;
+      grammar = grammar ∙ ap Ok (sym same ∙ stop.whole);
+    };
+    fetching = subst (λ x. IsTrue (is_fetching (world_after files x stop.before) stop.line.command))
+        start stop.fetching;
+    taken = stop.run.taken
+        ∙ ap (taken_with taken_old) (ap (λ x. answers files x stop.before) start);
+    holds = holds stop.before stop.run.world stop.run.work;
+  }
+
+  pub cut_line_is : IsCut files all w (world_of m machine.mem) taken_old taken_new
+      (taken_by machine.hart) → IsCutIn mib files text taken_old taken_new machine
+  cut_line_is cut = inl (record {
+    at = record {
+      before = cut.before;
+      line = cut.line;
+      after = cut.after;
+      grammar = grammar ∙ ap Ok (sym same ∙ cut.whole);
+    };
+    taken = subst (λ x. TookFront (taken_with taken_old (answers files x cut.before)) taken_new
+        (answer files (world_after files x cut.before) cut.line.command).text) start cut.taken;
+    holds = holds (cut.before ++ cut.line ∷ []) cut.world cut.work;
+  })

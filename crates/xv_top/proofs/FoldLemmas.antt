@@ -1,119 +1,143 @@
--- The commands one after another: the answers so far, and those to the commands that are left.
-use Rattle.std.proofs.Common.{◌≡◌, ℕ, ◌+◌, ◌<◌, ◌≤◌, List, [], ◌∷◌, ◌++◌, length, get_or, drop}
-use Rattle.std.proofs.Common.{Option, subst, refl, sym, ap, ◌∙◌, arith}
-use Rattle.std.proofs.lemmas.List.{drop_more, drop_all, append-nil, append_assoc}
+-- Lines one after another: what the first of them did, and one more.
+use Rattle.std.proofs.Common.{◌≡◌, ℕ, ◌+◌, ◌<◌, ◌≤◌, List, [], ◌∷◌, ◌++◌, length, get_or, take}
+use Rattle.std.proofs.Common.{drop, Option, true, subst, refl, sym, ap, ◌∙◌, arith}
+use Rattle.std.proofs.lemmas.List.{drop_more, take_all, take_more, take-append-drop, append_assoc}
+use Rattle.std.proofs.lemmas.List.{append-nil}
+use Rattle.xv_outside.specs.Fetch.{FileMap}
 use Rattle.xv_outside.specs.Outside.{taken_with, TookFront}
-use Rattle.xv_outside.proofs.Told.{taken_with_both, taken_with_none, took_front_after}
-use Rattle.xv_outside.proofs.Told.{took_front_before}
-use Rattle.xv_top.specs.declared.command.Command.{Command}
+use Rattle.xv_outside.proofs.Told.{taken_with_both, taken_with_none}
+use Rattle.xv_script.specs.declared.command.Line.{Line}
 use Rattle.xv_top.specs.World.{World}
-use Rattle.xv_top.specs.Answer.{answer}
+use Rattle.xv_top.specs.Answer.{Answer}
+use Rattle.xv_top.specs.Commands.{answer, is_fetching}
+use Rattle.xv_top.specs.Run.{HaveRun, IsStop, IsCut}
 use Rattle.xv_top.specs.Transcript.{answers, world_after, work_after}
 
--- the first made commands were run, from the world first to now: what they answered was taken
-pub record IsAnswered (cs : List Command) (made : ℕ) (first now : World)
-    (taken_first taken_now : Option (List ℕ)) (stepped : ℕ) : Type 0 where
-  pub printed : List ℕ
-  pub worked : ℕ
-  pub taken : taken_now ≡ taken_with taken_first printed
-  pub answers_whole : printed ++ answers now (drop made cs) ≡ answers first cs
-  pub world_whole : world_after now (drop made cs) ≡ world_after first cs
-  pub work_whole : worked + work_after now (drop made cs) ≡ work_after first cs
-  pub counted : worked ≤ stepped
+pub run_none : (files : FileMap) (first : World) (taken : Option (List ℕ))
+    → HaveRun files [] first first taken taken 0
+unfolding answers world_after work_after
+run_none files first taken =
+    record { taken = sym (taken_with_none taken); world = refl; work = omega arith }
 
-pub answered_start : (cs : List Command) (first : World) (taken : Option (List ℕ))
-    → IsAnswered cs 0 first first taken taken 0
-answered_start cs first taken = record {
-  printed = [];
-  worked = 0;
-  taken = sym (taken_with_none taken);
-  answers_whole = refl;
-  world_whole = refl;
-  work_whole = omega arith;
-  counted = omega arith;
-}
+-- ---- one line more
 
-module _ (w : World) (c : Command) (cs : List Command) where
-  answers_cons : answers w (c ∷ cs) ≡ (answer w c).text ++ answers (answer w c).world cs
-  unfolding answers
-  answers_cons = refl
+module _ (files : FileMap) (l : Line) where
+  -- what it answers behind others
+  abbrev last : World → List Line → Answer
+  last w ls = answer files (world_after files w ls) l.command
 
-  world_cons : world_after w (c ∷ cs) ≡ world_after (answer w c).world cs
+  answers_last : (w : World) (ls : List Line)
+      → answers files w (ls ++ l ∷ []) ≡ answers files w ls ++ (last w ls).text
+  unfolding answers world_after
+  answers_last w [] = append-nil (answer files w l.command).text
+  answers_last w (x ∷ ls) =
+      let a = answer files w x.command in
+      ap (λ t. a.text ++ t) (answers_last a.world ls)
+      ∙ sym (append_assoc a.text (answers files a.world ls) (last a.world ls).text)
+
+  world_last : (w : World) (ls : List Line)
+      → world_after files w (ls ++ l ∷ []) ≡ (last w ls).world
   unfolding world_after
-  world_cons = refl
+  world_last w [] = refl
+  world_last w (x ∷ ls) = world_last (answer files w x.command).world ls
 
-  work_cons : work_after w (c ∷ cs) ≡ (answer w c).work + work_after (answer w c).world cs
-  unfolding work_after
-  work_cons = refl
+  work_last : (w : World) (ls : List Line)
+      → work_after files w (ls ++ l ∷ []) ≡ work_after files w ls + (last w ls).work
+  unfolding work_after world_after
+  work_last w [] = omega arith
+  work_last w (x ∷ ls) =
+      let a = answer files w x.command in
+      omega (arith, work_last a.world ls)
 
-module _ (cs : List Command) (made : ℕ) (first now after : World)
-    (taken_first taken_now taken_after : Option (List ℕ)) (stepped stepped_after : ℕ)
-    (more : made < length cs) (c : Command) (here : c ≡ get_or cs made c)
-    (so_far : IsAnswered cs made first now taken_first taken_now stepped)
-    (text : List ℕ) (printed : text ≡ (answer now c).text)
-    (left : after ≡ (answer now c).world) where
-  rest_is : drop made cs ≡ c ∷ drop (made + 1) cs
-  rest_is = drop_more cs made c more ∙ ap (λ x. x ∷ drop (made + 1) cs) (sym here)
+-- the first lines of all, one more, and the others
+module _ (files : FileMap) (ls : List Line) (made : ℕ) (more : made < length ls) (l : Line)
+    (here : l ≡ get_or ls made l) (first now after : World)
+    (taken_old taken_now taken_new : Option (List ℕ)) (stepped stepped_after : ℕ)
+    (run : HaveRun files (take made ls) first now taken_old taken_now stepped) where
+  abbrev this : Answer
+  this = answer files now l.command
 
-  answers_left : answers now (drop made cs) ≡ text ++ answers after (drop (made + 1) cs)
-  answers_left =
-      ap (answers now) rest_is
-      ∙ (answers_cons now c (drop (made + 1) cs)
-      ∙ (ap (λ t. t ++ answers (answer now c).world (drop (made + 1) cs)) (sym printed)
-      ∙ ap (λ w. text ++ answers w (drop (made + 1) cs)) (sym left)))
+  whole : ls ≡ take made ls ++ l ∷ drop (made + 1) ls
+  whole =
+      sym (take-append-drop made ls)
+      ∙ ap (λ r. take made ls ++ r) (drop_more ls made l more
+      ∙ ap (λ x. x ∷ drop (made + 1) ls) (sym here))
 
-  pub answered_more : taken_after ≡ taken_with taken_now text
-      → stepped + (answer now c).work ≤ stepped_after
-      → IsAnswered cs (made + 1) first after taken_first taken_after stepped_after
-  answered_more taken work = record {
-    printed = so_far.printed ++ text;
-    worked = so_far.worked + (answer now c).work;
-    taken = taken ∙ (ap (λ t. taken_with t text) so_far.taken
-        ∙ taken_with_both taken_first so_far.printed text);
-    answers_whole = append_assoc so_far.printed text (answers after (drop (made + 1) cs))
-        ∙ (ap (λ t. so_far.printed ++ t) (sym answers_left) ∙ so_far.answers_whole);
-    world_whole =
-        ap (λ w. world_after w (drop (made + 1) cs)) left
-        ∙ (sym (world_cons now c (drop (made + 1) cs))
-        ∙ (ap (world_after now) (sym rest_is) ∙ so_far.world_whole));
-    work_whole =
-        omega (
-          arith,
-          so_far.work_whole,
-          ap (work_after now) rest_is,
-          work_cons now c (drop (made + 1) cs),
-          ap (λ w. work_after w (drop (made + 1) cs)) left,
-        );
-    counted = omega (arith, so_far.counted, work);
+  one_more : take (made + 1) ls ≡ take made ls ++ l ∷ []
+  one_more = take_more ls made l more ∙ ap (λ x. take made ls ++ x ∷ []) (sym here)
+
+  this_is : answer files (world_after files first (take made ls)) l.command ≡ this
+  this_is = ap (λ w. answer files w l.command) (sym run.world)
+
+  world_more : after ≡ this.world → after ≡ world_after files first (take made ls ++ l ∷ [])
+  world_more is =
+      is ∙ (ap (λ a. a.world) (sym this_is) ∙ sym (world_last files l first (take made ls)))
+
+  work_more : stepped + this.work ≤ stepped_after
+      → work_after files first (take made ls ++ l ∷ []) ≤ stepped_after
+  work_more counted =
+      omega (
+        arith,
+        counted,
+        run.work,
+        work_last files l first (take made ls),
+        ap (λ a. a.work) this_is,
+      )
+
+  -- the line was run, and its answer taken
+  pub run_more : (text : List ℕ) → text ≡ this.text → after ≡ this.world
+      → stepped + this.work ≤ stepped_after → taken_new ≡ taken_with taken_now text
+      → HaveRun files (take (made + 1) ls) first after taken_old taken_new stepped_after
+  run_more text printed world counted taken =
+      subst (λ all. HaveRun files all first after taken_old taken_new stepped_after)
+      (sym one_more) (record {
+        taken = taken ∙ (ap (λ t. taken_with t text) run.taken
+            ∙ (taken_with_both taken_old (answers files first (take made ls)) text
+            ∙ ap (taken_with taken_old)
+            (ap (λ t. answers files first (take made ls) ++ t)
+            (printed ∙ ap (λ a. a.text) (sym this_is))
+            ∙ sym (answers_last files l first (take made ls)))));
+        world = world_more world;
+        work = work_more counted;
+      })
+
+  -- it was run, and its answer cut short
+  pub run_cut : (text : List ℕ) → text ≡ this.text → after ≡ this.world
+      → stepped + this.work ≤ stepped_after → TookFront taken_now taken_new text
+      → IsCut files ls first after taken_old taken_new stepped_after
+  run_cut text printed world counted front = record {
+    before = take made ls;
+    line = l;
+    after = drop (made + 1) ls;
+    whole = whole;
+    taken = subst (λ t. TookFront t taken_new
+        (answer files (world_after files first (take made ls)) l.command).text) run.taken
+        (subst (TookFront taken_now taken_new) (printed ∙ ap (λ a. a.text) (sym this_is)) front);
+    world = world_more world;
+    work = work_more counted;
   }
 
-  pub answered_front : TookFront taken_now taken_after text
-      → TookFront taken_first taken_after (answers first cs)
-  answered_front front =
-      subst (λ t. TookFront taken_first taken_after t)
-      (ap (λ t. so_far.printed ++ t) (sym answers_left) ∙ so_far.answers_whole)
-      (took_front_after taken_first taken_now taken_after so_far.printed
-      (text ++ answers after (drop (made + 1) cs)) so_far.taken
-      (took_front_before taken_now taken_after text (answers after (drop (made + 1) cs)) front))
+  -- it stopped
+  pub run_stops : is_fetching now l.command ≡ true → after ≡ now → stepped_after ≡ stepped
+      → taken_new ≡ taken_now → IsStop files ls first after taken_old taken_new stepped_after
+  run_stops fetching world counted taken = record {
+    before = take made ls;
+    line = l;
+    after = drop (made + 1) ls;
+    whole = whole;
+    fetching = ap (λ w. is_fetching w l.command) (sym run.world) ∙ fetching;
+    run = record {
+      taken = taken ∙ run.taken;
+      world = world ∙ run.world;
+      work = omega (arith, run.work, counted);
+    };
+  }
 
--- no command is left
-module _ (cs : List Command) (made : ℕ) (first now : World)
-    (taken_first taken_now : Option (List ℕ)) (stepped : ℕ)
-    (all : length cs ≤ made)
-    (done : IsAnswered cs made first now taken_first taken_now stepped) where
-  nothing_left : drop made cs ≡ []
-  nothing_left = drop_all made cs all
-
-  pub answered_taken : taken_now ≡ taken_with taken_first (answers first cs)
-  unfolding answers
-  answered_taken =
-      done.taken ∙ ap (taken_with taken_first) (sym (append-nil done.printed)
-      ∙ (ap (λ r. done.printed ++ answers now r) (sym nothing_left) ∙ done.answers_whole))
-
-  pub answered_world : now ≡ world_after first cs
-  unfolding world_after
-  answered_world = ap (world_after now) (sym nothing_left) ∙ done.world_whole
-
-  pub answered_work : work_after first cs ≤ stepped
-  unfolding work_after
-  answered_work = omega (arith, done.counted, done.work_whole, ap (work_after now) nothing_left)
+-- no line is left
+pub run_all_is : (files : FileMap) (ls : List Line) (made : ℕ) (first now : World)
+    (taken_old taken_now : Option (List ℕ)) (stepped : ℕ) → length ls ≤ made
+    → HaveRun files (take made ls) first now taken_old taken_now stepped
+    → HaveRun files ls first now taken_old taken_now stepped
+run_all_is files ls made first now taken_old taken_now stepped all run =
+    subst (λ done. HaveRun files done first now taken_old taken_now stepped)
+    (take_all made ls all) run

@@ -5,13 +5,12 @@ use Rattle.std.proofs.Common.{is_some, refl, sym, ap, ◌∙◌, arith}
 use Rattle.std.proofs.lemmas.Bool.{and_parts, leb-true}
 use Rattle.std.proofs.lemmas.Bool.Decides.{nat_tests}
 use Rattle.xv_mem.specs.Bytes.{range, put, put_word, word_at}
-use Rattle.xv_mem.proofs.Puts.{range-put_inside, range-put_outside, length-put}
+use Rattle.xv_mem.proofs.Puts.{range-put_inside, range-put_outside, range-range, length-put}
 use Rattle.xv_mem.proofs.Words.{word_at-range, range-put_word_inside, range-put_word_outside}
 use Rattle.xv_mem.proofs.Words.{length-put_word}
 use Rattle.xv_step.specs.Bus.{Spot}
 use Rattle.xv_step.proofs.BusLemmas.{AreJoined, Nothing}
 use Rattle.xv_hart.specs.Window.{window_bus, host_of}
-use Rattle.xv_region.specs.Plan.{flat, flat_base}
 use Rattle.xv_lone.specs.Machine.{Machine}
 use Rattle.xv_region.specs.declared.cell.Cell.{Cell}
 use Rattle.xv_region.specs.declared.cell.Cell.TheVariants as cells
@@ -20,27 +19,30 @@ use Rattle.xv_lone.specs.Memory.{Memory, Place, spot_at, spot_of}
 use Rattle.xv_lone.specs.Step.{lone_bus}
 use Rattle.xv_lone.specs.Journal.{after_load, stored_at}
 use Rattle.xv_top.specs.declared.guest.Guest.{Guest}
-use Rattle.xv_top.specs.Guest.{lone_of, host_end, window_of, place_at, SameElsewhere}
+use Rattle.xv_top.specs.Contents.{bytes_of_spot, peeked}
+use Rattle.xv_top.specs.Guest.{plan_of, lone_of, host_end, window_of, place_at, SameElsewhere}
 use Rattle.xv_top.specs.Layout.{host_base}
 
 -- whether n bytes at a guest physical address lie in the guest's memory
 abbrev within : Guest → ℕ → ℕ → Bool
-within g a n = leb flat_base a && leb (a + n) (flat_base + 4096 * g.pages)
+within g a n = leb g.plan.ram.base a && leb (a + n) (g.plan.ram.base + g.plan.ram.size)
 
-within_fits : (g : Guest) (a n : ℕ) → within g a n ≡ true → a - flat_base + n ≤ 4096 * g.pages
+within_fits : (g : Guest) (a n : ℕ) → within g a n ≡ true → a - g.plan.ram.base + n ≤
+    g.plan.ram.size
 within_fits g a n h =
-    let parts = and_parts (leb flat_base a) (leb (a + n) (flat_base + 4096 * g.pages)) h in
+    let parts = and_parts (leb g.plan.ram.base a) (leb (a + n) (g.plan.ram.base + g.plan.ram.size))
+    h in
     omega (
       arith,
-      leb-true flat_base a parts.0,
-      leb-true (a + n) (flat_base + 4096 * g.pages) parts.1,
+      leb-true g.plan.ram.base a parts.0,
+      leb-true (a + n) (g.plan.ram.base + g.plan.ram.size) parts.1,
     )
 
 -- ---- the two buses
 
 -- the guest's memory, of all host bytes
 abbrev pub seen_memory : Guest → List ℕ → Memory
-seen_memory g bytes = range bytes host_base (4096 * g.pages) ∷ []
+seen_memory g bytes = range bytes host_base (g.plan.ram.size) ∷ []
 
 -- host bytes that have the guest's memory, and outside of it are those of the turn's start
 pub record IsGoodFor (g : Guest) (first bytes : List ℕ) : Type 0 where
@@ -112,18 +114,19 @@ spot_found true at spot e = (refl, some_place e)
 spot_found false at spot e = cc
 
 pub joined : (g : Guest) (first : List ℕ)
-    → AreJoined (lone_bus (flat g.pages)) (window_bus (window_of g)) (seen_memory g) place_at
+    → AreJoined (lone_bus (plan_of g)) (window_bus (window_of g)) (seen_memory g) place_at
     (IsGoodFor g first) (StandsIn g) Nothing
 unfolding cell
 joined g first = record {
-  find = λ width gpa access. inl (found_same (within g gpa width) (gpa - flat_base));
+  find = λ width gpa access. inl (found_same (within g gpa width) (gpa - g.plan.ram.base));
   stands = λ width gpa spot access found.
-      let there = spot_found (within g gpa width) (host_base + (gpa - flat_base)) spot found in
+      let there = spot_found (within g gpa width) (host_base + (gpa - g.plan.ram.base)) spot found
+      in
       let fits = within_fits g gpa width there.0 in
       record { first = omega (arith, there.1); last = omega (arith, there.1, fits) };
   get = λ bytes width at good stands.
       let offset : ℕ = at - host_base in
-      word_at-range width bytes host_base (4096 * g.pages) offset
+      word_at-range width bytes host_base (g.plan.ram.size) offset
       (omega (arith, stands.first, stands.last))
       ∙ ap (word_at width bytes)
       (let e : host_base + offset ≡ at = omega (arith, stands.first) in e);
@@ -131,9 +134,9 @@ joined g first = record {
       let offset : ℕ = at - host_base in
       let e : host_base + offset ≡ at = omega (arith, stands.first) in
       ap (λ r. r ∷ [])
-      (sym (range-put_word_inside width bytes host_base (4096 * g.pages) offset value
+      (sym (range-put_word_inside width bytes host_base (g.plan.ram.size) offset value
       (omega (arith, stands.first, stands.last)) good.fits)
-      ∙ ap (λ n. range (put_word width bytes n value) host_base (4096 * g.pages)) e);
+      ∙ ap (λ n. range (put_word width bytes n value) host_base (g.plan.ram.size)) e);
   good = λ bytes width at value good stands. put_elsewhere g first bytes width at value good
       stands.first stands.last;
   same = λ held width one other stands others. same_place one other stands.first others.first;
@@ -152,17 +155,17 @@ found_there false x y e = cc
 
 -- bytes put where the window leads are a load of the lone machine
 pub same_load : (g : Guest) (mem bytes : List ℕ) (gpa at : ℕ)
-    → host_base + 4096 * g.pages ≤ length mem → host_of (window_of g) (length bytes) gpa ≡ Some at
-    → lone_of g (put mem at bytes) ≡ after_load (flat g.pages) gpa bytes (lone_of g mem)
+    → host_base + g.plan.ram.size ≤ length mem → host_of (window_of g) (length bytes) gpa ≡ Some at
+    → lone_of g (put mem at bytes) ≡ after_load (plan_of g) gpa bytes (lone_of g mem)
 unfolding cell
 same_load g mem bytes gpa at fits found =
-    let offset : ℕ = gpa - flat_base in
+    let offset : ℕ = gpa - g.plan.ram.base in
     let there = found_there (within g gpa (length bytes)) (host_base + offset) at found in
     let stored : Bool → Machine =
     λ b. stored_at bytes (lone_of g mem) (spot_of (offset_cell b offset)) in
     ap (λ a. lone_of g (put mem a bytes)) (sym there.1)
     ∙ (ap (λ r. record (lone_of g mem) { memory = r ∷ [] })
-    (range-put_inside mem host_base (4096 * g.pages) offset bytes
+    (range-put_inside mem host_base (g.plan.ram.size) offset bytes
     (within_fits g gpa (length bytes) there.0) fits)
     ∙ sym (ap stored there.0))
 
@@ -171,7 +174,7 @@ pub load_elsewhere : (g : Guest) (mem bytes : List ℕ) (gpa at : ℕ) → host_
     → host_of (window_of g) (length bytes) gpa ≡ Some at
     → SameElsewhere (host_end g) mem (put mem at bytes)
 load_elsewhere g mem bytes gpa at fits found =
-    let offset : ℕ = gpa - flat_base in
+    let offset : ℕ = gpa - g.plan.ram.base in
     let there = found_there (within g gpa (length bytes)) (host_base + offset) at found in
     let inside = within_fits g gpa (length bytes) there.0 in
     let last : at + length bytes ≤ host_end g = omega (arith, there.1, inside) in
@@ -186,20 +189,39 @@ load_elsewhere g mem bytes gpa at fits found =
 
 -- where the window leads, the bytes are memory
 pub some_load : (g : Guest) (gpa n at : ℕ) → host_of (window_of g) n gpa ≡ Some at
-    → is_some (spot_at (flat g.pages) n gpa) ≡ true
+    → is_some (spot_at (plan_of g) n gpa) ≡ true
 unfolding cell
 some_load g gpa n at found =
-    ap (λ b. is_some (spot_of (offset_cell b (gpa - flat_base))))
-    (found_there (within g gpa n) (host_base + (gpa - flat_base)) at found).0
+    ap (λ b. is_some (spot_of (offset_cell b (gpa - g.plan.ram.base))))
+    (found_there (within g gpa n) (host_base + (gpa - g.plan.ram.base)) at found).0
 
 -- where the window leads nowhere, they are not
 pub no_load : (g : Guest) (gpa n : ℕ) → host_of (window_of g) n gpa ≡ None
-    → spot_at (flat g.pages) n gpa ≡ None
+    → spot_at (plan_of g) n gpa ≡ None
 unfolding cell
 no_load g gpa n none =
-    nowhere (within g gpa n) (host_base + (gpa - flat_base)) (gpa - flat_base) none
+    nowhere (within g gpa n) (host_base + (gpa - g.plan.ram.base)) (gpa - g.plan.ram.base) none
   where
     nowhere : {A : Type 0} (b : Bool) (x : A) (offset : ℕ) → cond b (Some x) None ≡ None
         → spot_of (offset_cell b offset) ≡ None
     nowhere true x offset e = cc
     nowhere false x offset e = refl
+
+-- where the window leads, the bytes there are those of the spot
+pub same_peek : (g : Guest) (mem : List ℕ) (gpa n at : ℕ) → host_end g ≤ length mem
+    → host_of (window_of g) n gpa ≡ Some at
+    → peeked (plan_of g) (lone_of g mem).memory gpa n ≡ Some (range mem at n)
+unfolding cell
+same_peek g mem gpa n at fits found =
+    let offset : ℕ = gpa - g.plan.ram.base in
+    let there = found_there (within g gpa n) (host_base + offset) at found in
+    ap (λ b. option_map (bytes_of_spot (lone_of g mem).memory n) (spot_of (offset_cell b offset)))
+    there.0
+    ∙ ap Some (range-range mem host_base g.plan.ram.size offset n (within_fits g gpa n there.0) fits
+    ∙ ap (λ a. range mem a n) there.1)
+
+pub peek_within : (g : Guest) (gpa n at size : ℕ) → host_end g ≤ size
+    → host_of (window_of g) n gpa ≡ Some at → at + n ≤ size
+peek_within g gpa n at size fits found =
+    let there = found_there (within g gpa n) (host_base + (gpa - g.plan.ram.base)) at found in
+    omega (arith, there.1, within_fits g gpa n there.0, fits)

@@ -1,27 +1,42 @@
 -- Each live guest's machine is the replay of its own journal.
 use Rattle.std.proofs.Common.{◌≡◌, ℕ, zero, suc, Bool, true, false, cond, ltb, List, [], ◌∷◌, ◌++◌}
 use Rattle.std.proofs.Common.{map, length, Option, Some, None, is_some, slice_get, subst, refl, sym}
-use Rattle.std.proofs.Common.{ap, ◌∙◌, codes, arith}
+use Rattle.std.proofs.Common.{ap, ◌∙◌, codes, arith, Result, Ok, Err}
+use Rattle.std.specs.List.{concat}
 use Rattle.std.specs.Str.{bytes_eq}
 use Rattle.std.proofs.lemmas.Bool.{cond_both, cond-true, cond-false, ltb-false}
 use Rattle.std.proofs.lemmas.List.{append-nil, append_assoc}
 use Rattle.std.proofs.lemmas.Slice.Eq.{bytes_eq-Decides}
+use Rattle.sha2.specs.Sha256.{sha256}
+use Rattle.xv_outside.specs.Fetch.{FileMap}
 use Rattle.xv_lone.specs.declared.vcpu.VcpuView.{VcpuView}
+use Rattle.xv_fdt.specs.Fault as fdt
+use Rattle.xv_fdt.specs.Grammar.{tree}
+use Rattle.xv_fdt.specs.Tree.{Entry as Node}
 use Rattle.xv_region.specs.Need.{need}
 use Rattle.xv_region.specs.Plan.{Plan, flat}
 use Rattle.xv_step.specs.Bus.{Spot}
+use Rattle.xv_tree.specs.declared.fault.PlanFault.{PlanFault}
+use Rattle.xv_tree.specs.Plan as trees
 use Rattle.xv_lone.specs.Memory.{Place, spot_at}
 use Rattle.xv_lone.specs.Machine.{Machine, new_machine}
+use Rattle.xv_lone.specs.Ready.{is_reset}
 use Rattle.xv_lone.specs.Journal.{Entry, Born, Changed, Change, Load, Kick, after_change}
 use Rattle.xv_lone.specs.Journal.{after_entry, extended, replay, replay_from}
-use Rattle.xv_top.specs.declared.command.Command.{Command}
-use Rattle.xv_top.specs.declared.command.Command.TheVariants as command
+use Rattle.xv_script.specs.declared.command.Command.{Command}
+use Rattle.xv_script.specs.declared.command.Command.TheVariants as command
+use Rattle.xv_script.specs.declared.command.Line.{Line}
 use Rattle.xv_top.specs.World.{LiveGuest, World, GuestEntry, RunSoFar, first_world, changed_guest}
 use Rattle.xv_top.specs.World.{change_entry, guest_turn, one_turn, pick, run_from, run_of}
 use Rattle.xv_top.specs.World.{guest_named, free}
-use Rattle.xv_top.specs.Answer.{Answer, answer, refused, says, flat_answer, poke_guest, poke_at}
-use Rattle.xv_top.specs.Answer.{kick_guest, regs_guest, regs_of_vcpu, run_answer}
-use Rattle.xv_top.specs.Texts.{frames_text, regs_text}
+use Rattle.xv_top.specs.Answer.{Answer, refused, says, where_there, where_reset, with_file}
+use Rattle.xv_top.specs.Births.{admitted, created, where_alone, is_built, plan_answer, tree_answer}
+use Rattle.xv_top.specs.Births.{create_answer, flat_answer}
+use Rattle.xv_top.specs.Contents.{put_at, put_into, load_bytes, load_guest, peeked, mem_of}
+use Rattle.xv_top.specs.Commands.{answer, regs_of_vcpu, run_answer, unbuilt}
+use Rattle.xv_top.specs.Files.{file_of, most_tree, most_image}
+use Rattle.xv_top.specs.Texts.{frames_text, regs_text, tree_text, plan_text, mem_text}
+use Rattle.xv_top.specs.Texts.{digest_text}
 use Rattle.xv_top.specs.Transcript.{world_after}
 use Rattle.xv_top.specs.Journals.{journal_from, journal_of, entries_by, AreReplayed}
 
@@ -130,75 +145,152 @@ module _ (es : List GuestEntry) (w : World) (h : AreReplayed es w.guests) where
       subst (λ x. AreReplayed (es ++ a.entries) x.guests) (sym world)
       (subst (λ x. AreReplayed x w.guests) (sym (append-nil es) ∙ ap (λ x. es ++ x) (sym none)) h)
 
-  flat_replayed : (name : List ℕ) (pages : ℕ) → AnswerReplayed es (flat_answer w name pages)
-  flat_replayed name pages =
-      cond_both (is_some (guest_named name w)) _ _ (AnswerReplayed es)
-      (λ _. same_replayed (refused w (codes "used")) refl refl)
-      (λ _. cond_both (ltb 0 (length w.guests)) _ _ (AnswerReplayed es)
-      (λ _. same_replayed (refused w (codes "unbuilt")) refl refl)
-      (λ alone. cond_both (ltb (free w) (need (flat pages).regions)) _ _ (AnswerReplayed es)
-      (λ _. same_replayed (says w (frames_text (need (flat pages).regions) (free w))) refl refl)
-      (λ _. made w.guests alone)))
+  says_replayed : (text : List ℕ) → AnswerReplayed es (says w text)
+  says_replayed text = same_replayed (says w text) refl refl
+
+  -- ---- births
+
+  admitted_replayed : (name : List ℕ) (plan : Plan) → ltb 0 (length w.guests) ≡ false
+      → AnswerReplayed es (admitted w name plan)
+  admitted_replayed name plan alone =
+      cond_both (ltb (free w) (need plan.regions)) _ _ (AnswerReplayed es)
+      (λ _. says_replayed (frames_text (need plan.regions) (free w)))
+      (λ _. made w.guests alone)
     where
       made : (gs : List LiveGuest) → ltb 0 (length gs) ≡ false
           → AreReplayed (es ++ an_entry name (Born w.clock) ∷ [])
-          (gs ++ record {
-            name = name;
-            plan = flat pages;
-            machine = new_machine (flat pages) w.clock;
-          } ∷ [])
-      made [] alone = born_replayed name (flat pages) w.clock es
+          (gs ++ record { name = name; plan = plan; machine = new_machine plan w.clock } ∷ [])
+      made [] alone = born_replayed name plan w.clock es
       made (g ∷ gs) alone = absurd (omega (arith, ltb-false 0 (suc (length gs)) alone))
 
-  poke_replayed : (name : List ℕ) (gpa : ℕ) (bytes : List ℕ) (o : Option LiveGuest)
-      → AnswerReplayed es (poke_guest w name gpa bytes o)
-  poke_replayed name gpa bytes None = same_replayed (refused w (codes "guest")) refl refl
-  poke_replayed name gpa bytes (Some g) =
-      cond_both _ _ _ (AnswerReplayed es) (λ _. at_spot (spot_at g.plan (length bytes) gpa))
+  alone_replayed : (name : List ℕ) (next : Answer)
+      → (ltb 0 (length w.guests) ≡ false → AnswerReplayed es next)
+      → AnswerReplayed es (where_alone w name next)
+  alone_replayed name next follows =
+      cond_both (is_some (guest_named name w)) _ _ (AnswerReplayed es)
+      (λ _. same_replayed (refused w (codes "used")) refl refl)
+      (λ _. cond_both (ltb 0 (length w.guests)) _ _ (AnswerReplayed es)
+      (λ _. same_replayed (refused w (codes "unbuilt")) refl refl) follows)
+
+  file_replayed : (limit : ℕ) (next : List ℕ → Answer) (o : Option (List ℕ))
+      → ((bytes : List ℕ) → AnswerReplayed es (next bytes))
+      → AnswerReplayed es (with_file w limit next o)
+  file_replayed limit next None follows = same_replayed (refused w (codes "missing")) refl refl
+  file_replayed limit next (Some bytes) follows =
+      cond_both (ltb limit (length bytes)) _ _ (AnswerReplayed es)
+      (λ _. same_replayed (refused w (codes "big")) refl refl) (λ _. follows bytes)
+
+  plan_replayed : (name : List ℕ) (r : Result Plan PlanFault) → ltb 0 (length w.guests) ≡ false
+      → AnswerReplayed es (plan_answer w name r)
+  plan_replayed name (Err fault) alone = says_replayed (plan_text fault)
+  plan_replayed name (Ok plan) alone =
+      cond_both (is_built plan) _ _ (AnswerReplayed es)
+      (λ _. admitted_replayed name plan alone)
+      (λ _. same_replayed (unbuilt w) refl refl)
+
+  tree_replayed : (name : List ℕ) (r : Result (List Node) fdt.Fault)
+      → ltb 0 (length w.guests) ≡ false → AnswerReplayed es (tree_answer w name r)
+  tree_replayed name (Err fault) alone = says_replayed (tree_text fault.0 fault.1)
+  tree_replayed name (Ok entries) alone = plan_replayed name (trees.plan entries w.area) alone
+
+  create_replayed : (files : FileMap) (name file : List ℕ)
+      → AnswerReplayed es (create_answer files w name file)
+  create_replayed files name file =
+      alone_replayed name _ (λ alone.
+      file_replayed most_tree (λ bytes. tree_answer w name (tree bytes)) (file_of files file)
+      (λ bytes. tree_replayed name (tree bytes) alone))
+
+  -- ---- what is done to a guest
+
+  there_replayed : (next : LiveGuest → Answer) (o : Option LiveGuest)
+      → ((g : LiveGuest) → AnswerReplayed es (next g)) → AnswerReplayed es (where_there w next o)
+  there_replayed next None follows = same_replayed (refused w (codes "guest")) refl refl
+  there_replayed next (Some g) follows = follows g
+
+  reset_replayed : (next : LiveGuest → Answer) (o : Option LiveGuest)
+      → ((g : LiveGuest) → AnswerReplayed es (next g)) → AnswerReplayed es (where_reset w next o)
+  reset_replayed next None follows = same_replayed (refused w (codes "guest")) refl refl
+  reset_replayed next (Some g) follows =
+      cond_both (is_reset g.machine.state) _ _ (AnswerReplayed es) (λ _. follows g)
       (λ _. same_replayed (refused w (codes "state")) refl refl)
+
+  put_replayed : (name : List ℕ) (gpa : ℕ) (bytes text : List ℕ) (g : LiveGuest)
+      → AnswerReplayed es (put_into w name gpa bytes text g)
+  put_replayed name gpa bytes text g = at_spot (spot_at g.plan (length bytes) gpa)
     where
-      at_spot : (o : Option (Spot Place)) → AnswerReplayed es (poke_at w name gpa bytes o)
+      at_spot : (o : Option (Spot Place)) → AnswerReplayed es (put_at w name gpa bytes text o)
       at_spot None = same_replayed (refused w (codes "outside")) refl refl
-      at_spot (Some c) = all_replayed name (Load gpa bytes) es w.guests h
+      at_spot (Some spot) = all_replayed name (Load gpa bytes) es w.guests h
 
-  kick_replayed : (name : List ℕ) (o : Option LiveGuest) → AnswerReplayed es (kick_guest w name o)
-  kick_replayed name None = same_replayed (refused w (codes "guest")) refl refl
-  kick_replayed name (Some g) =
-      cond_both _ _ _ (AnswerReplayed es) (λ _. all_replayed name Kick es w.guests h)
-      (λ _. same_replayed (refused w (codes "state")) refl refl)
+  load_replayed : (files : FileMap) (name : List ℕ) (gpa : ℕ) (file : List ℕ)
+      (o : Option LiveGuest) → AnswerReplayed es (load_guest files w name gpa file o)
+  load_replayed files name gpa file o =
+      reset_replayed _ o (λ g. file_replayed most_image (load_bytes w name gpa g)
+      (file_of files file) (λ bytes. put_replayed name gpa bytes _ g))
 
-  regs_replayed : (name : List ℕ) (vcpu : ℕ) (o : Option LiveGuest)
-      → AnswerReplayed es (regs_guest w name vcpu o)
-  regs_replayed name vcpu None = same_replayed (refused w (codes "guest")) refl refl
-  regs_replayed name vcpu (Some g) = of_vcpu (slice_get g.machine.vcpus vcpu)
-    where
-      of_vcpu : (v : Option VcpuView) → AnswerReplayed es (regs_of_vcpu w name vcpu v)
-      of_vcpu None = same_replayed (refused w (codes "vcpu")) refl refl
-      of_vcpu (Some v) = same_replayed (says w (regs_text name vcpu v)) refl refl
+  mem_replayed : (name : List ℕ) (gpa : ℕ) (o : Option (List ℕ))
+      → AnswerReplayed es (mem_of w name gpa o)
+  mem_replayed name gpa None = same_replayed (refused w (codes "outside")) refl refl
+  mem_replayed name gpa (Some bytes) = says_replayed (mem_text name gpa bytes)
+
+  regs_replayed : (name : List ℕ) (vcpu : ℕ) (o : Option VcpuView)
+      → AnswerReplayed es (regs_of_vcpu w name vcpu o)
+  regs_replayed name vcpu None = same_replayed (refused w (codes "vcpu")) refl refl
+  regs_replayed name vcpu (Some v) = says_replayed (regs_text name vcpu v)
 
   turns_replayed : (turns : ℕ) → AnswerReplayed es (run_answer w turns)
   turns_replayed turns =
       cond_both _ _ _ (AnswerReplayed es) (λ _. same_replayed (refused w (codes "turns")) refl refl)
       (λ _. run_replayed es turns w h)
 
-  answer_replayed : (c : Command) → AnswerReplayed es (answer w c)
+  answer_replayed : (files : FileMap) (c : Command) → AnswerReplayed es (answer files w c)
   unfolding answer
-  answer_replayed (command.Flat name pages) = flat_replayed name pages
-  answer_replayed (command.Poke name gpa bytes) = poke_replayed name gpa bytes (guest_named name w)
-  answer_replayed (command.Kick name) = kick_replayed name (guest_named name w)
-  answer_replayed (command.Regs name vcpu) = regs_replayed name vcpu (guest_named name w)
-  answer_replayed (command.Run turns) = turns_replayed turns
+  answer_replayed files (command.Create name file) = create_replayed files name file
+  answer_replayed files (command.Flat name pages) =
+      alone_replayed name _ (admitted_replayed name (flat pages))
+  answer_replayed files (command.Load name gpa file) =
+      load_replayed files name gpa file (guest_named name w)
+  answer_replayed files (command.Poke name gpa bytes) =
+      reset_replayed _ (guest_named name w) (put_replayed name gpa bytes _)
+  answer_replayed files (command.Kick name) =
+      reset_replayed _ (guest_named name w) (λ g. all_replayed name Kick es w.guests h)
+  answer_replayed files (command.Pause name) = same_replayed (unbuilt w) refl refl
+  answer_replayed files (command.Resume name) = same_replayed (unbuilt w) refl refl
+  answer_replayed files (command.Reset name) = same_replayed (unbuilt w) refl refl
+  answer_replayed files (command.Halt name) = same_replayed (unbuilt w) refl refl
+  answer_replayed files (command.Destroy name) = same_replayed (unbuilt w) refl refl
+  answer_replayed files (command.Regs name vcpu) =
+      there_replayed _ (guest_named name w)
+      (λ g. regs_replayed name vcpu (slice_get g.machine.vcpus vcpu))
+  answer_replayed files (command.Mem name gpa len) =
+      there_replayed _ (guest_named name w)
+      (λ g. mem_replayed name gpa (peeked g.plan g.machine.memory gpa len))
+  answer_replayed files (command.Digest name) =
+      there_replayed _ (guest_named name w) (λ g. says_replayed (digest_text name (sha256 (concat
+      g.machine.memory))))
+  answer_replayed files (command.Audit name) = same_replayed (unbuilt w) refl refl
+  answer_replayed files command.List = same_replayed (unbuilt w) refl refl
+  answer_replayed files (command.Input name port bytes) = same_replayed (unbuilt w) refl refl
+  answer_replayed files (command.Dump name port) = same_replayed (unbuilt w) refl refl
+  answer_replayed files command.Ports = same_replayed (unbuilt w) refl refl
+  answer_replayed files (command.Clock value) = same_replayed (unbuilt w) refl refl
+  answer_replayed files (command.Tick value) = same_replayed (unbuilt w) refl refl
+  answer_replayed files (command.Run turns) = turns_replayed turns
 
-replayed_from : (es : List GuestEntry) (w : World) (cs : List Command) → AreReplayed es w.guests
-    → AreReplayed (es ++ entries_by w cs) (world_after w cs).guests
+replayed_from : (files : FileMap) (es : List GuestEntry) (w : World) (ls : List Line)
+    → AreReplayed es w.guests
+    → AreReplayed (es ++ entries_by files w ls) (world_after files w ls).guests
 unfolding entries_by world_after
-replayed_from es w [] h = subst (λ all. AreReplayed all w.guests) (sym (append-nil es)) h
-replayed_from es w (c ∷ cs) h =
-    subst (λ all. AreReplayed all (world_after (answer w c).world cs).guests)
-    (append_assoc es (answer w c).entries (entries_by (answer w c).world cs))
-    (replayed_from (es ++ (answer w c).entries) (answer w c).world cs (answer_replayed es w h c))
+replayed_from files es w [] h =
+    subst (λ all. AreReplayed all w.guests) (sym (append-nil es)) h
+replayed_from files es w (l ∷ ls) h =
+    let a = answer files w l.command in
+    subst (λ all. AreReplayed all (world_after files a.world ls).guests)
+    (append_assoc es a.entries (entries_by files a.world ls))
+    (replayed_from files (es ++ a.entries) a.world ls (answer_replayed es w h files l.command))
 
--- whatever commands come, each live guest's machine is the replay of its own journal
-pub replayed : (pool : ℕ) (cs : List Command)
-    → AreReplayed (entries_by (first_world pool) cs) (world_after (first_world pool) cs).guests
-replayed pool cs = replayed_from [] (first_world pool) cs tt
+-- whatever lines come, each live guest's machine is the replay of its own journal
+pub replayed : (mib : ℕ) (files : FileMap) (ls : List Line)
+    → AreReplayed (entries_by files (first_world mib) ls)
+    (world_after files (first_world mib) ls).guests
+replayed mib files ls = replayed_from files [] (first_world mib) ls tt

@@ -1,9 +1,8 @@
-mod ScriptLemmas
 mod GuestLemmas
 mod SimulationLemmas
 mod MonitorLemmas
 mod TurnLemmas
-mod NeedLemmas
+mod PlanLemmas
 mod ManagerLemmas
 mod RunLemmas
 mod ReadLemmas

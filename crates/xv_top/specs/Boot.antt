@@ -1,19 +1,22 @@
 -- What stands at each end of the program.
-use Rattle.std.specs.Prelude.{◌≡◌, ℕ, ◌+◌, ◌≤◌, ◌⊎◌, List, [], ◌∷◌, length, take, Option, Some}
-use Rattle.std.specs.Prelude.{None, option_map, codes}
-use Rattle.xv_base.specs.Fault.{Rose}
+use Rattle.std.specs.Prelude.{◌≡◌, ℕ, ◌+◌, ◌≤◌, ◌⊎◌, List, [], ◌∷◌, ◌++◌, length, take, Option}
+use Rattle.std.specs.Prelude.{Some, None, option_map, codes, Result, Ok, Err, IsTrue}
 use Rattle.xv_outside.specs.Outside.{taken_with, left_after, TookFront}
 use Rattle.xv_mem.specs.Bytes.{range}
+use Rattle.xv_outside.specs.Fetch.{FileMap}
 use Rattle.xv_region.specs.declared.plan.Region.{Region}
+use Rattle.xv_region.specs.Need.{own_size}
 use Rattle.xv_lone.specs.Memory.{Memory}
-use Rattle.xv_top.specs.declared.command.Command.{Command}
+use Rattle.xv_script.specs.declared.command.Line.{Line}
+use Rattle.xv_script.specs.declared.fault.ScriptKind.{ScriptKind}
+use Rattle.xv_script.specs.Script.{commands, most_bytes}
 use Rattle.xv_hart.specs.declared.machine.Machine.{Machine}
 use Rattle.xv_hart.specs.Hart.{taken_by}
 use Rattle.xv_hart.specs.Machine.{area_of}
 use Rattle.xv_top.specs.World.{LiveGuest, World, first_world}
-use Rattle.xv_top.specs.Layout.{host_base, memory_size, pool_frames}
-use Rattle.xv_top.specs.Script.{commands, most_bytes}
+use Rattle.xv_top.specs.Layout.{host_base, memory_size}
 use Rattle.xv_top.specs.Texts.{script_text}
+use Rattle.xv_top.specs.Commands.{answer, is_fetching}
 use Rattle.xv_top.specs.Journals.{entries_by, AreReplayed}
 use Rattle.xv_top.specs.Transcript.{answers, world_after, work_after, transcript}
 
@@ -38,10 +41,11 @@ pub record ReadsAtMost (limit : ℕ) (old new : Option (List ℕ)) : Type 0 wher
   pub within : count ≤ limit
   pub left : new ≡ left_after old count
 
--- the regions lie one after another in host memory, from a host address on
+-- the regions' own bytes lie one after another in host memory, from a host address on
 abbrev pub memory_from : ℕ → List Region → List ℕ → Memory
 memory_from at [] bytes = []
-memory_from at (r ∷ rs) bytes = range bytes at r.size ∷ memory_from (at + r.size) rs bytes
+memory_from at (r ∷ rs) bytes =
+    range bytes at (own_size r.size r.kind) ∷ memory_from (at + own_size r.size r.kind) rs bytes
 
 -- host memory holds the memory of each guest's lone machine
 abbrev pub HoldsWorld : List ℕ → List LiveGuest → Type 0
@@ -58,62 +62,104 @@ IsScriptOf (Some bytes) script = bytes ≡ script
 abbrev pub emptied : Option (List ℕ) → Option (List ℕ)
 emptied left = option_map (λ bytes. []) left
 
--- All commands were run from a world on: the answers to them were taken and nothing else, and the
--- hart took at least their lone steps.
-pub record AllRan (cs : List Command) (before after : World) (taken_old taken_new : Option (List ℕ))
-    (machine_old machine_new : Machine) : Type 0 where
-  pub taken : taken_new ≡ taken_with taken_old (answers before cs)
-  pub world : after ≡ world_after before cs
-  pub work : work_after before cs ≤ taken_by machine_new.hart
-  pub size : length machine_new.mem ≡ length machine_old.mem
-  pub area : machine_new.area ≡ machine_old.area
-
--- The sink failed at one of the answers, and took a front of them.
-pub record IsStopped (cs : List Command) (before : World) (taken_old taken_new : Option (List ℕ))
-    (faults_old faults_new : ℕ) : Type 0 where
-  pub front : TookFront taken_old taken_new (answers before cs)
-  pub cause : Rose faults_old faults_new
-
--- All commands of the script were run: the answers to them were taken and nothing else, the machine
--- of each guest in the world is the replay of its own journal, and the hart has stepped and host
--- memory holds what the world says. No part of host memory is reserved.
-pub record IsServed (mib : ℕ) (script : List ℕ) (taken_old taken_new : Option (List ℕ))
-    (machine : Machine) : Type 0 where
-  pub cs : List Command
-  pub grammar : commands script ≡ Some cs
-  pub taken : taken_new ≡ taken_with taken_old (transcript mib script)
+-- The machine holds the world that lines leave: the machine of each guest in it is the replay of
+-- its own journal, host memory holds the memory of each, and the hart has stepped as it says. No
+-- part of host memory is reserved.
+pub record Holds (mib : ℕ) (files : FileMap) (lines : List Line) (machine : Machine) : Type 0 where
   pub size : length machine.mem ≡ memory_size mib
   pub area : machine.area ≡ area_of mib 0
-  pub memory : HoldsWorld machine.mem (world_after (first_world (pool_frames mib)) cs).guests
-  pub journals : AreReplayed (entries_by (first_world (pool_frames mib)) cs)
-      (world_after (first_world (pool_frames mib)) cs).guests
-  pub stepped : work_after (first_world (pool_frames mib)) cs ≤ taken_by machine.hart
+  pub memory : HoldsWorld machine.mem (world_after files (first_world mib) lines).guests
+  pub journals : AreReplayed (entries_by files (first_world mib) lines)
+      (world_after files (first_world mib) lines).guests
+  pub stepped : work_after files (first_world mib) lines ≤ taken_by machine.hart
+
+-- ---- at each status
+
+-- Every line of the script was run: the transcript was taken and nothing else.
+pub record IsServed (mib : ℕ) (files : FileMap) (script : List ℕ)
+    (taken_old taken_new : Option (List ℕ)) (machine : Machine) : Type 0 where
+  pub lines : List Line
+  pub grammar : commands script ≡ Ok lines
+  pub taken : taken_new ≡ taken_with taken_old (transcript mib files script)
+  pub holds : Holds mib files lines machine
 
 -- The script was read to its end and served.
-pub record IsRun (mib : ℕ) (left_old left_new taken_old taken_new : Option (List ℕ))
+pub record IsRun (mib : ℕ) (files : FileMap) (left_old left_new taken_old taken_new : Option (List
+    ℕ))
     (machine : Machine) : Type 0 where
   pub script : List ℕ
   pub told : IsScriptOf left_old script
   pub left : left_new ≡ emptied left_old
-  pub served : IsServed mib script taken_old taken_new machine
+  pub served : IsServed mib files script taken_old taken_new machine
 
--- The script was read to its end or to the limit and refused: its one line was taken and nothing
--- else.
+-- Bytes are no script: the line that says so was taken and nothing else.
+pub record IsNoScript (script : List ℕ) (taken_old taken_new : Option (List ℕ)) : Type 0 where
+  pub line : ℕ
+  pub kind : ScriptKind
+  pub grammar : commands script ≡ Err (line, kind)
+  pub taken : taken_new ≡ taken_with taken_old (script_text line kind)
+
+-- The script was read to its end or to the limit and refused.
 pub record IsRefused (left_old left_new taken_old taken_new : Option (List ℕ)) : Type 0 where
   pub script : List ℕ
   pub told : IsScriptOf left_old script
-  pub grammar : commands script ≡ None
   pub left : left_new ≡ left_after left_old most_read
-  pub taken : taken_new ≡ taken_with taken_old script_text
+  pub refused : IsNoScript script taken_old taken_new
 
--- The sink failed, and took a front of what the script gives.
-pub record IsCutShort (mib : ℕ) (left_old taken_old taken_new : Option (List ℕ))
-    (faults_old faults_new : ℕ) : Type 0 where
+-- A line of a script, and those before and after it.
+pub record LineOf (script : List ℕ) : Type 0 where
+  pub before : List Line
+  pub line : Line
+  pub after : List Line
+  pub grammar : commands script ≡ Ok (before ++ line ∷ after)
+
+-- One of the lines of a script stopped in the fetch of its file: what the lines before it answer
+-- was
+-- taken and nothing else, and the machine holds their world.
+pub record IsStoppedIn (mib : ℕ) (files : FileMap) (script : List ℕ)
+    (taken_old taken_new : Option (List ℕ)) (machine : Machine) : Type 0 where
+  pub at : LineOf script
+  pub fetching : IsTrue
+      (is_fetching (world_after files (first_world mib) at.before) at.line.command)
+  pub taken : taken_new ≡ taken_with taken_old (answers files (first_world mib) at.before)
+  pub holds : Holds mib files at.before machine
+
+pub record IsStopped (mib : ℕ) (files : FileMap) (left_old taken_old taken_new : Option (List ℕ))
+    (machine : Machine) : Type 0 where
   pub script : List ℕ
   pub told : IsScriptOf left_old script
-  pub taken : TookFront taken_old taken_new (transcript mib script)
-  pub cause : Rose faults_old faults_new
+  pub stopped : IsStoppedIn mib files script taken_old taken_new machine
+
+-- The answer to one of the lines was cut short: what the lines before it answer was taken, and a
+-- front of this answer; the machine holds the world after it.
+pub record IsCutLine (mib : ℕ) (files : FileMap) (script : List ℕ)
+    (taken_old taken_new : Option (List ℕ)) (machine : Machine) : Type 0 where
+  pub at : LineOf script
+  pub taken : TookFront (taken_with taken_old (answers files (first_world mib) at.before)) taken_new
+      (answer files (world_after files (first_world mib) at.before) at.line.command).text
+  pub holds : Holds mib files (at.before ++ at.line ∷ []) machine
+
+-- The line of a refused script was cut short.
+pub record IsCutRefusal (script : List ℕ) (taken_old taken_new : Option (List ℕ)) : Type 0 where
+  pub line : ℕ
+  pub kind : ScriptKind
+  pub grammar : commands script ≡ Err (line, kind)
+  pub taken : TookFront taken_old taken_new (script_text line kind)
+
+-- The sink failed in what the script gives.
+abbrev pub IsCutIn : ℕ → FileMap → (script : List ℕ) → (taken_old taken_new : Option (List ℕ))
+    → Machine → Type 0
+IsCutIn mib files script taken_old taken_new machine =
+    IsCutLine mib files script taken_old taken_new machine
+    ⊎ IsCutRefusal script taken_old taken_new
+
+pub record IsCutShort (mib : ℕ) (files : FileMap) (left_old taken_old taken_new : Option (List ℕ))
+    (machine : Machine) : Type 0 where
+  pub script : List ℕ
+  pub told : IsScriptOf left_old script
+  pub cut : IsCutIn mib files script taken_old taken_new machine
 
 -- the statuses that there are
 abbrev pub IsStatus : ℕ → Type 0
-IsStatus n = (n ≡ 0) ⊎ ((n ≡ 2) ⊎ ((n ≡ 3) ⊎ ((n ≡ 4) ⊎ ((n ≡ 5) ⊎ (n ≡ 7)))))
+IsStatus n =
+    (n ≡ 0) ⊎ ((n ≡ 2) ⊎ ((n ≡ 3) ⊎ ((n ≡ 4) ⊎ ((n ≡ 5) ⊎ ((n ≡ 6) ⊎ (n ≡ 7))))))

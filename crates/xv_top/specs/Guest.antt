@@ -1,5 +1,5 @@
 -- What the guest in the program is: a lone machine, over host memory.
-use Rattle.std.specs.Prelude.{ℕ, ◌≡◌, ◌+◌, ◌-◌, ◌*◌, ◌^◌, ◌<◌, ◌≤◌, List, [], ◌∷◌, ◌++◌, length}
+use Rattle.std.specs.Prelude.{ℕ, ◌≡◌, ◌+◌, ◌-◌, ◌%◌, ◌^◌, ◌<◌, ◌≤◌, List, [], ◌∷◌, ◌++◌, length}
 use Rattle.std.specs.Prelude.{Option, Some, None}
 use Rattle.std.specs.List.{All}
 use Rattle.xv_mem.specs.Bytes.{range}
@@ -14,7 +14,9 @@ use Rattle.xv_lone.specs.declared.vcpu.GuestState.TheVariants.{Reset}
 use Rattle.xv_lone.specs.declared.vcpu.HartState.{HartState}
 use Rattle.xv_lone.specs.declared.vcpu.TurnEnd.{TurnEnd}
 use Rattle.xv_lone.specs.declared.vcpu.VcpuView.{VcpuView}
-use Rattle.xv_region.specs.Plan.{Plan, flat, flat_base}
+use Rattle.xv_region.specs.declared.plan.Kind.TheVariants.{Ram}
+use Rattle.xv_region.specs.declared.plan.Region.{Region}
+use Rattle.xv_region.specs.Plan.{Plan}
 use Rattle.xv_lone.specs.Memory.{Place}
 use Rattle.xv_lone.specs.Vcpu.{reset_vcpu}
 use Rattle.xv_lone.specs.Machine.{Machine, guest_time}
@@ -23,15 +25,24 @@ use Rattle.xv_lone.specs.Turn as turns
 use Rattle.xv_lone.specs.Turn.{Core}
 use Rattle.xv_lone.specs.Trail.{IsTrail, IsPiece}
 use Rattle.xv_top.specs.declared.guest.Guest.{Guest}
+use Rattle.xv_top.specs.declared.plan.BuiltPlan.{BuiltPlan}
+use Rattle.xv_top.specs.declared.plan.RamRegion.{RamRegion}
 use Rattle.xv_top.specs.Layout.{host_base}
 
+-- one region of RAM, and one VCPU
+abbrev pub region_of : RamRegion → Region
+region_of r = record { name = r.name; base = r.base; size = r.size; kind = Ram }
+
+abbrev pub seen : BuiltPlan → Plan
+seen plan = record { regions = region_of plan.ram ∷ []; vcpus = plan.vcpu ∷ [] }
+
 abbrev pub plan_of : Guest → Plan
-plan_of g = flat g.pages
+plan_of g = seen g.plan
 
 -- the lone machine that the guest is, over these host bytes
 abbrev pub lone_of : Guest → List ℕ → Machine
 lone_of g bytes = record {
-  memory = range bytes host_base (4096 * g.pages) ∷ [];
+  memory = range bytes host_base g.plan.ram.size ∷ [];
   vcpus = g.view ∷ [];
   state = g.state;
   birth = g.birth;
@@ -43,17 +54,17 @@ time_of g clock = guest_time clock (lone_of g [])
 
 -- where the guest's memory lies, and where it ends
 abbrev pub window_of : Guest → Window
-window_of g = record { base = flat_base; size = 4096 * g.pages; host = host_base }
+window_of g = record { base = g.plan.ram.base; size = g.plan.ram.size; host = host_base }
 
 abbrev pub host_end : Guest → ℕ
-host_end g = host_base + 4096 * g.pages
+host_end g = host_base + g.plan.ram.size
 
 -- a guest at its create
-abbrev pub new_guest : List ℕ → ℕ → ℕ → Guest
-new_guest name pages clock = record {
+abbrev pub new_guest : (name : List ℕ) → BuiltPlan → (clock : ℕ) → Guest
+new_guest name plan clock = record {
   name = name;
-  pages = pages;
-  view = reset_vcpu flat_base;
+  plan = plan;
+  view = reset_vcpu plan.vcpu.start;
   state = Reset;
   birth = clock;
 }
@@ -120,10 +131,10 @@ pub record IsTurned (g : Guest) (t : ℕ) (first : List ℕ) (r : Regs) (bytes :
 
 -- ---- what it needs of host memory
 
--- the guest's memory lies in a host memory of so many bytes, its pc is an instruction's address,
--- and its CSRs hold what writes keep
+-- the guest's memory begins at a page and lies in a host memory of so many bytes, its pc is an
+-- instruction's address, and its CSRs hold what writes keep
 pub record IsPlaced (g : Guest) (size : ℕ) : Type 0 where
-  pub some : 0 < g.pages
+  pub base : g.plan.ram.base % 4096 ≡ 0
   pub pages : host_end g ≤ size
   pub small : size < 2 ^ 45
   pub pc : IsInstructionAddress g.view.pc

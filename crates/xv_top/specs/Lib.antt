@@ -1,11 +1,15 @@
 pub mod Answer
+pub mod Births
 pub mod Boot
+pub mod Commands
+pub mod Contents
+pub mod Files
 pub mod Layout
 pub mod Guest
 pub mod Monitor
 pub mod Journals
 pub mod Manager
-pub mod Script
+pub mod Run
 pub mod Texts
 pub mod Transcript
 pub mod World

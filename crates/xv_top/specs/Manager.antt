@@ -4,6 +4,8 @@ use Rattle.std.specs.Prelude.{Bool, if◌then◌else◌, Option, Some, None}
 use Rattle.xv_top.specs.declared.guest.Guest.{Guest}
 use Rattle.xv_top.specs.declared.manager.Manager.{Manager}
 use Rattle.xv_top.specs.World.{LiveGuest, World, GuestEntry, RunSoFar, most_turns, one_turn, pick}
+use Rattle.xv_hart.specs.declared.machine.Machine.{Machine}
+use Rattle.xv_hart.specs.Hart.{taken_by}
 use Rattle.xv_top.specs.Answer.{Answer}
 use Rattle.xv_top.specs.Guest.{lone_of, plan_of, host_end, IsPlaced, SameElsewhere}
 use Rattle.xv_top.specs.Layout.{root_frames, host_base}
@@ -20,16 +22,19 @@ guests_of (Some g) bytes = live_guest g bytes ∷ []
 abbrev pub world_of : Manager → List ℕ → World
 world_of m bytes = record {
   pool = m.pool;
+  area = m.area;
   clock = m.clock;
   tick = m.tick;
   turns = m.turns;
   guests = guests_of m.guest bytes;
 }
 
--- what an answer is: this text, and this world
-pub record Gives (a : Answer) (printed : List ℕ) (after : World) : Type 0 where
+-- what an answer is: this text and this world, and its lone steps among those that the hart took
+pub record Gives (a : Answer) (printed : List ℕ) (after : World)
+    (taken_old taken_new : ℕ) : Type 0 where
   pub text : printed ≡ a.text
   pub world : after ≡ a.world
+  pub work : taken_old + a.work ≤ taken_new
 
 -- host memory is all zeros before the first guest, and has room for the guest after that
 abbrev pub GuestIsSound : Option Guest → List ℕ → Type 0
@@ -53,6 +58,14 @@ memory_end (Some g) = host_end g
 pub record Keeps (a : Answer) (m : Manager) (before after : List ℕ) : Type 0 where
   pub outside : SameElsewhere (memory_end m.guest) before after
   pub all : a.entries ≡ [] → after ≡ before
+
+-- a line that stopped did nothing, and nothing is printed
+pub record HasStopped (m_old m_new : Manager) (machine_old machine_new : Machine)
+    (text : List ℕ) : Type 0 where
+  pub manager : m_new ≡ m_old
+  pub memory : machine_new.mem ≡ machine_old.mem
+  pub taken : taken_by machine_new.hart ≡ taken_by machine_old.hart
+  pub printed : text ≡ []
 
 -- the turns that a turn adds to the idle ones
 abbrev pub idle_of : Bool → ℕ

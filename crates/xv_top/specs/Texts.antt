@@ -1,11 +1,19 @@
 -- The texts of the answers.
 use Rattle.std.specs.Prelude.{ℕ, zero, suc, ◌%◌, ◌==◌, Bool, true, false, if◌then◌else◌, List, []}
 use Rattle.std.specs.Prelude.{◌∷◌, ◌++◌, slice_index, decimal, codes}
-use Rattle.xv_base.specs.Text.{hex16}
+use Rattle.xv_base.specs.Text.{hex16, hex_bytes}
 use Rattle.xv_csr.specs.declared.SCsrs.{SCsrs}
 use Rattle.xv_lone.specs.declared.vcpu.VcpuView.{VcpuView}
 use Rattle.xv_lone.specs.declared.vcpu.HartState.{HartState}
 use Rattle.xv_lone.specs.declared.vcpu.HartState.TheVariants.{Started, Waiting, Suspended, Stopped}
+use Rattle.xv_fdt.specs.declared.fault.FdtKind.{FdtKind}
+use Rattle.xv_fdt.specs.declared.fault.FdtKind.TheVariants as fdt
+use Rattle.xv_script.specs.declared.fault.ScriptKind.{ScriptKind}
+use Rattle.xv_script.specs.declared.fault.ScriptKind.TheVariants as script
+use Rattle.xv_tree.specs.declared.fault.PlanFault.{PlanFault}
+use Rattle.xv_tree.specs.declared.fault.PlanFault.TheVariants as faults
+use Rattle.xv_tree.specs.declared.fault.PlanKind.{PlanKind}
+use Rattle.xv_tree.specs.declared.fault.PlanKind.TheVariants as plan
 
 -- the end of a line
 abbrev pub line_end : List ℕ
@@ -35,9 +43,76 @@ unfoldable pub ran_text : ℕ → ℕ → ℕ → List ℕ
 ran_text turns idle clock = codes "ran " ++ decimal turns ++ codes " idle " ++ decimal idle
     ++ codes " now " ++ decimal clock ++ line_end
 
--- a script that isn't built
-unfoldable pub script_text : List ℕ
-script_text = codes "script 0 unbuilt" ++ line_end
+unfoldable pub loaded_text : List ℕ → ℕ → List ℕ
+loaded_text name count = codes "loaded " ++ name ++ codes " " ++ decimal count ++ line_end
+
+unfoldable pub mem_text : List ℕ → ℕ → List ℕ → List ℕ
+mem_text name gpa bytes =
+    codes "mem " ++ name ++ codes " " ++ hex16 gpa ++ codes " " ++ hex_bytes bytes ++ line_end
+
+unfoldable pub digest_text : List ℕ → List ℕ → List ℕ
+digest_text name digest = codes "digest " ++ name ++ codes " " ++ hex_bytes digest ++ line_end
+
+-- ---- a tree or a plan that is refused
+
+abbrev pub fdt_word : FdtKind → List ℕ
+fdt_word fdt.BadMagic = codes "magic"
+fdt_word fdt.BadVersion = codes "version"
+fdt_word fdt.Short = codes "short"
+fdt_word fdt.BadOffset = codes "offset"
+fdt_word fdt.BadToken = codes "token"
+fdt_word fdt.BadName = codes "name"
+fdt_word fdt.Unbalanced = codes "balance"
+fdt_word fdt.TooDeep = codes "deep"
+fdt_word fdt.TooBig = codes "big"
+
+-- the bytes of a file are no tree: which rule they break, and where
+unfoldable pub tree_text : FdtKind → ℕ → List ℕ
+tree_text kind offset =
+    codes "refused tree " ++ fdt_word kind ++ codes " " ++ decimal offset ++ line_end
+
+abbrev pub plan_word : PlanKind → List ℕ
+plan_word plan.NoAspace = codes "aspace"
+plan_word plan.NoVcpus = codes "vcpus"
+plan_word plan.TooManyVcpus = codes "manyvcpus"
+plan_word plan.TooManyRegions = codes "manyregions"
+plan_word plan.BadManifest = codes "manifest"
+plan_word plan.BadKind = codes "kind"
+plan_word plan.BadAddress = codes "address"
+plan_word plan.BadSize = codes "size"
+plan_word plan.BadStart = codes "start"
+plan_word plan.BadPriority = codes "priority"
+plan_word plan.BadIrq = codes "irq"
+plan_word plan.BadAlias = codes "alias"
+plan_word plan.BadHost = codes "host"
+
+-- a tree describes no guest: which rule it breaks, and at which node, or which two regions overlap.
+-- The rules never give want of memory.
+unfoldable pub plan_text : PlanFault → List ℕ
+plan_text (faults.At kind node) =
+    codes "refused plan " ++ plan_word kind ++ codes " " ++ decimal node ++ line_end
+plan_text (faults.Overlap i j) =
+    codes "refused plan overlap " ++ decimal i ++ codes " " ++ decimal j ++ line_end
+plan_text faults.NoMemory = []
+
+-- ---- a script that is refused
+
+abbrev pub script_word : ScriptKind → List ℕ
+script_word script.Long = codes "long"
+script_word script.Byte = codes "byte"
+script_word script.Word = codes "word"
+script_word script.Count = codes "count"
+script_word script.Name = codes "name"
+script_word script.Number = codes "number"
+script_word script.Range = codes "range"
+script_word script.Hex = codes "hex"
+
+-- which rule a script breaks, and in which line
+unfoldable pub script_text : ℕ → ScriptKind → List ℕ
+script_text line kind =
+    codes "script " ++ decimal line ++ codes " " ++ script_word kind ++ line_end
+
+-- ---- registers
 
 abbrev pub hart_state_text : HartState → List ℕ
 hart_state_text Started = codes "started"

@@ -1,32 +1,35 @@
--- The transcript of a script: the answers to its commands, one after another.
-use Rattle.std.specs.Prelude.{ℕ, ◌+◌, List, [], ◌∷◌, ◌++◌, Option, Some, None}
-use Rattle.xv_top.specs.declared.command.Command.{Command}
-use Rattle.xv_top.specs.Script.{commands}
+-- The transcript of a script: the answers to its lines, one after another.
+use Rattle.std.specs.Prelude.{ℕ, ◌+◌, List, [], ◌∷◌, ◌++◌, Result, Ok, Err}
+use Rattle.xv_outside.specs.Fetch.{FileMap}
+use Rattle.xv_script.specs.declared.command.Line.{Line}
+use Rattle.xv_script.specs.Fault.{Fault}
+use Rattle.xv_script.specs.Script.{commands}
 use Rattle.xv_top.specs.Texts.{script_text}
-use Rattle.xv_top.specs.Layout.{pool_frames}
 use Rattle.xv_top.specs.World.{World, first_world}
-use Rattle.xv_top.specs.Answer.{answer}
+use Rattle.xv_top.specs.Commands.{answer}
 
--- the answers to commands from a world on
-unfoldable pub answers : World → List Command → List ℕ
-answers w [] = []
-answers w (c ∷ cs) = (answer w c).text ++ answers (answer w c).world cs
+-- the answers to lines from a world on, over these files
+unfoldable pub answers : FileMap → World → List Line → List ℕ
+answers files w [] = []
+answers files w (l ∷ ls) =
+    (answer files w l.command).text ++ answers files (answer files w l.command).world ls
 
 -- the world that they leave
-unfoldable pub world_after : World → List Command → World
-world_after w [] = w
-world_after w (c ∷ cs) = world_after (answer w c).world cs
+unfoldable pub world_after : FileMap → World → List Line → World
+world_after files w [] = w
+world_after files w (l ∷ ls) = world_after files (answer files w l.command).world ls
 
 -- the lone steps that they make
-unfoldable pub work_after : World → List Command → ℕ
-work_after w [] = 0
-work_after w (c ∷ cs) = (answer w c).work + work_after (answer w c).world cs
+unfoldable pub work_after : FileMap → World → List Line → ℕ
+work_after files w [] = 0
+work_after files w (l ∷ ls) =
+    (answer files w l.command).work + work_after files (answer files w l.command).world ls
 
--- what is written for commands, or where a script has none
-unfoldable pub transcript_of : ℕ → Option (List Command) → List ℕ
-transcript_of mib None = script_text
-transcript_of mib (Some cs) = answers (first_world (pool_frames mib)) cs
+-- what is written for the lines of a script, or for the first that is none
+unfoldable pub transcript_of : ℕ → FileMap → Result (List Line) Fault → List ℕ
+transcript_of mib files (Ok lines) = answers files (first_world mib) lines
+transcript_of mib files (Err fault) = script_text fault.0 fault.1
 
--- what is written for a script, where host memory has so many MiB
-unfoldable pub transcript : ℕ → List ℕ → List ℕ
-transcript mib script = transcript_of mib (commands script)
+-- what is written for a script over files, where host memory has so many MiB
+unfoldable pub transcript : ℕ → FileMap → (script : List ℕ) → List ℕ
+transcript mib files script = transcript_of mib files (commands script)

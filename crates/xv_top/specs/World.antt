@@ -3,30 +3,42 @@
 use Rattle.std.specs.Prelude.{ℕ, zero, suc, ◌+◌, ◌-◌, ◌%◌, ◌^◌, Bool, if◌then◌else◌, List, [], ◌∷◌}
 use Rattle.std.specs.Prelude.{◌++◌, map, find, sum_by, Option, Some, None}
 use Rattle.std.specs.Str.{bytes_eq}
+use Rattle.xv_base.specs.declared.keys.Span.{Span}
 use Rattle.xv_region.specs.Need.{need}
 use Rattle.xv_region.specs.Plan.{Plan}
 use Rattle.xv_lone.specs.Machine.{Machine, guest_time}
 use Rattle.xv_lone.specs.Ready as ready
 use Rattle.xv_lone.specs.Turn.{steps}
 use Rattle.xv_lone.specs.Journal.{Entry, Changed, Change, Turn, after_change}
+use Rattle.xv_hart.specs.Machine.{area_of}
+use Rattle.xv_top.specs.Layout.{pool_frames}
 
 pub record LiveGuest : Type 0 where
   pub name : List ℕ
   pub plan : Plan
   pub machine : Machine
 
--- pool is the number of frames that guests may take, turns that of the turns so far; guests stand
--- in order of creation
+-- pool is the number of frames that guests may take, area what is reserved of host memory, turns
+-- the
+-- number of the turns so far; guests stand in order of creation
 pub record World : Type 0 where
   pub pool : ℕ
+  pub area : Span
   pub clock : ℕ
   pub tick : ℕ
   pub turns : ℕ
   pub guests : List LiveGuest
 
--- the world before the first command
+-- the world before the first command, where host memory has so many MiB and none is reserved
 abbrev pub first_world : ℕ → World
-first_world pool = record { pool = pool; clock = 0; tick = 100; turns = 0; guests = [] }
+first_world mib = record {
+  pool = pool_frames mib;
+  area = area_of mib 0;
+  clock = 0;
+  tick = 100;
+  turns = 0;
+  guests = [];
+}
 
 -- the frames that no guest has
 abbrev pub free : World → ℕ

@@ -1,7 +1,7 @@
 //! One guest: its memory lies in one piece of host memory, and its one VCPU runs on the hart.
 ghost use Rattle.std.specs.Prelude.{◌≡◌, ◌+◌, ◌^◌, ◌<◌, ◌≤◌, length, List, ℕ, None, is_some, []};
-ghost use Rattle.std.specs.Prelude.{true, false};
-ghost use Rattle.std.specs.List.{All};
+ghost use Rattle.std.specs.Prelude.{true, false, option_map, IfSome};
+ghost use Rattle.std.specs.List.{All, concat};
 ghost use Rattle.xv_hart.specs.Hart.{regs_of, taken_by, trail_of};
 ghost use Rattle.xv_hart.specs.Machine.{IsFit};
 ghost use Rattle.xv_hart.specs.Step.{IsWellFormed};
@@ -13,12 +13,14 @@ ghost use Rattle.xv_lone.specs.Trail.{IsTrail};
 ghost use Rattle.xv_lone.specs.Turn as turns;
 ghost use Rattle.xv_lone.specs.Vcpu.{kicked_vcpu};
 ghost use Rattle.xv_lone.specs.declared.vcpu.GuestState.TheVariants.{Running};
+ghost use Rattle.xv_top.specs.Contents.{peeked};
 ghost use Rattle.xv_top.specs.Guest.{plan_of, lone_of, time_of, new_guest, window_of};
 ghost use Rattle.xv_top.specs.Guest.{regs_of_guest, core_of};
 ghost use Rattle.xv_top.specs.Guest.{turned, turn_ending, turn_begun, IsTurned, IsPlaced};
 ghost use Rattle.xv_top.specs.Guest.{SameElsewhere, host_end};
 
-use crate::layout::{FRAME_SIZE, HOST_BASE};
+use crate::layout::HOST_BASE;
+use crate::plan::BuiltPlan;
 use std::sync::ledger::Ledger;
 use xv_base::GuestName;
 use xv_csr::Lines;
@@ -29,14 +31,11 @@ use xv_mem::{HostMem, Steps};
 /// The greatest number of lone steps in a turn.
 const TURN_STEPS: u32 = 1000;
 
-/// The guest physical address at which a flat guest's memory begins and its VCPU starts.
-pub const FLAT_BASE: u64 = 0x8000_0000;
-
-/// A live guest of `pages` pages of RAM and one VCPU.
+/// A live guest.
 #[derive(Clone, Copy)]
 pub struct Guest {
     pub name: GuestName,
-    pub pages: u32,
+    pub plan: BuiltPlan,
     pub view: VcpuView,
     pub state: GuestState,
     pub birth: u64,
@@ -44,13 +43,13 @@ pub struct Guest {
 
 impl Guest {
     /// A guest at its create.
-    pub fn new(name: GuestName, pages: u32, clock: u64) -> Guest
-        ensures { result ≡ new_guest name pages clock }
+    pub fn new(name: GuestName, plan: BuiltPlan, clock: u64) -> Guest
+        ensures { result ≡ new_guest name plan clock }
     {
         Guest {
             name,
-            pages,
-            view: VcpuView::reset(FLAT_BASE),
+            plan,
+            view: VcpuView::reset(plan.vcpu.start),
             state: GuestState::Reset,
             birth: clock,
         }
@@ -108,8 +107,8 @@ impl Guest {
         ensures { result ≡ window_of self.now }
     {
         Window {
-            base: FLAT_BASE,
-            size: FRAME_SIZE * u64::from(self.pages),
+            base: self.plan.ram.base,
+            size: self.plan.ram.size,
             host: HOST_BASE,
         }
     }
@@ -151,6 +150,28 @@ impl Guest {
         };
         mem.copy_in(at, bytes);
         true
+    }
+
+    /// The `len` bytes of the guest's memory at a guest physical address; None where they don't lie
+    /// wholly in it.
+    pub fn peek<'a>(&self, mem: &'a HostMem, gpa: u64, len: usize) -> Option<&'a [u8]>
+        requires { IsPlaced self.now (length mem.now) }
+        ensures bytes { option_map (λ bytes. bytes.now) result
+            ≡ peeked (plan_of self.now) (lone_of self.now mem.now).memory gpa len }
+        ensures count { IfSome result (λ bytes. length bytes.now ≡ len) }
+    {
+        let Some(at) = self.window().host_of(len as u64, gpa) else {
+            return None;
+        };
+        Some(mem.lend(at, len))
+    }
+
+    /// All bytes of the guest's memory.
+    pub fn contents<'a>(&self, mem: &'a HostMem) -> &'a [u8]
+        requires { IsPlaced self.now (length mem.now) }
+        ensures { result.now ≡ concat (lone_of self.now mem.now).memory }
+    {
+        mem.lend(HOST_BASE, self.plan.ram.size as usize)
     }
 
     /// Starts the VCPU.

@@ -1,20 +1,18 @@
 //! The program's top call.
 #![tactic(auto)]
 
-mod command;
-mod frames;
 mod guest;
 mod layout;
 mod manager;
 mod monitor;
+mod plan;
 mod program;
 mod read;
+mod refusals;
 mod report;
-mod script;
 mod stop;
 mod words;
 
-pub use command::Command;
 pub use program::boot;
 
 #[cfg(test)]

@@ -4,9 +4,9 @@ ghost use Rattle.xv_base.specs.Fault.{Rose};
 ghost use Rattle.xv_outside.specs.Outside.{left_after};
 ghost use Rattle.xv_top.specs.Boot.{IsTextOf, ReadsAtMost, most_read};
 
-use crate::script::MOST_BYTES;
 use std::alloc::Global;
 use xv_outside::Source;
+use xv_script::MOST_BYTES;
 
 /// One byte more than a script may have, so that a longer one is seen to be.
 const MOST_READ: usize = MOST_BYTES + 1;

@@ -7,31 +7,6 @@ use xv_csr::SCsrs;
 use xv_lone::{HartState, VcpuView};
 use xv_print::Printer;
 
-/// `refused WORD`
-#[tactic(auto, unfolding(crate::specs::Texts::refused_text))]
-pub fn refused(printer: &mut Printer, word: &[u8])
-    requires empty { printer.old ≡ [] }
-    requires short { length word.now ≤ 40 }
-    ensures { printer.new ≡ texts.refused_text word.now }
-{
-    printer.text(b"refused ");
-    printer.text(word);
-    printer.text(b"\n");
-}
-
-/// `refused frames need NEEDED free FREE`
-#[tactic(auto, unfolding(crate::specs::Texts::frames_text))]
-pub fn frames(printer: &mut Printer, needed: u64, free: u64)
-    requires { printer.old ≡ [] }
-    ensures { printer.new ≡ texts.frames_text needed free }
-{
-    printer.text(b"refused frames need ");
-    printer.number(needed);
-    printer.text(b" free ");
-    printer.number(free);
-    printer.text(b"\n");
-}
-
 /// `created NAME vcpus VCPUS regions REGIONS frames FRAMES`
 #[tactic(auto, unfolding(crate::specs::Texts::created_text))]
 pub fn created(printer: &mut Printer, name: &[u8], vcpus: u64, regions: u64, frames: u64)
@@ -61,6 +36,51 @@ pub fn poked(printer: &mut Printer, name: &[u8], count: u64)
     printer.text(name);
     printer.text(b" ");
     printer.number(count);
+    printer.text(b"\n");
+}
+
+/// `loaded NAME COUNT`
+#[tactic(auto, unfolding(crate::specs::Texts::loaded_text))]
+pub fn loaded(printer: &mut Printer, name: &[u8], count: u64)
+    requires empty { printer.old ≡ [] }
+    requires short { length name.now ≤ 40 }
+    ensures { printer.new ≡ texts.loaded_text name.now count }
+{
+    printer.text(b"loaded ");
+    printer.text(name);
+    printer.text(b" ");
+    printer.number(count);
+    printer.text(b"\n");
+}
+
+/// `mem NAME GPA HEX`
+#[tactic(auto, unfolding(crate::specs::Texts::mem_text))]
+pub fn mem(printer: &mut Printer, name: &[u8], gpa: u64, bytes: &[u8])
+    requires empty { printer.old ≡ [] }
+    requires short { length name.now ≤ 40 }
+    requires few { length bytes.now ≤ 4096 }
+    ensures { printer.new ≡ texts.mem_text name.now gpa bytes.now }
+{
+    printer.text(b"mem ");
+    printer.text(name);
+    printer.text(b" ");
+    printer.hex16(gpa);
+    printer.text(b" ");
+    printer.hex(bytes);
+    printer.text(b"\n");
+}
+
+/// `digest NAME HEX`
+#[tactic(auto, unfolding(crate::specs::Texts::digest_text))]
+pub fn digest(printer: &mut Printer, name: &[u8], digest: &[u8; 32])
+    requires empty { printer.old ≡ [] }
+    requires short { length name.now ≤ 40 }
+    ensures { printer.new ≡ texts.digest_text name.now digest.now }
+{
+    printer.text(b"digest ");
+    printer.text(name);
+    printer.text(b" ");
+    printer.hex(digest);
     printer.text(b"\n");
 }
 

@@ -1,4 +1,4 @@
-//! Why a run of the program ended before its last command.
+//! Why a run of the program ended before its last line.
 
 /// Each reason has the status that the program ends with.
 #[derive(Clone, Copy, Debug, PartialEq, Eq)]
@@ -9,6 +9,17 @@ pub enum Stop {
     ReadFault,
     /// The sink failed.
     WriteFault,
-    /// Want of memory.
+    /// Want of memory, before the first line.
+    NoMemory,
+    /// A line stopped, and nothing of it was written.
+    InLine(LineStop),
+}
+
+/// Why a line has no answer.
+#[derive(Clone, Copy, Debug, PartialEq, Eq)]
+pub enum LineStop {
+    /// A file could not be read.
+    FileFault,
+    /// Want of memory for a file, or for what is made of it.
     NoMemory,
 }

@@ -1,13 +1,48 @@
-//! Scripts of one run, and their transcripts. The numbers of the transcripts come from the tables
-//! of the standards, worked out beside the program; many more of the kind stand in rows/, and are
+//! Runs of the program, and what they write. Numbers come from the tables of the standards, worked
+//! out beside the program, and digests from another program; many more rows stand in rows/, and are
 //! run by the built program.
+use super::trees::{
+    Base, Fill, NO_ALIAS, NO_PART, NO_ROM, NO_VCPU1, NO_VIRTUAL, ROM, TARGET, UART,
+};
 
-/// A script of one run, and the parts of its transcript.
+/// A file: the bytes that it begins with, how many it has, and what they are filled with.
+#[derive(Clone, Copy)]
+pub struct FileOf {
+    pub name: &'static [u8],
+    pub base: Base,
+    pub len: usize,
+    pub fills: &'static [Fill],
+}
+
+/// A run: the script, with so many `#` behind it; the files; the numbers from 0 of the reads, puts
+/// and fetches that fail; how many bytes the sink takes; the status, and the parts of what it took.
+#[derive(Clone, Copy)]
 pub struct Row {
     pub message: &'static str,
     pub script: &'static [u8],
+    pub marks: usize,
+    pub files: &'static [FileOf],
+    pub reads: &'static [u64],
+    pub puts: &'static [u64],
+    pub fetches: &'static [u64],
+    pub room: usize,
+    pub status: u8,
     pub transcript: &'static [&'static [u8]],
 }
+
+/// A run in which nothing fails.
+const PLAIN: Row = Row {
+    message: "",
+    script: b"",
+    marks: 0,
+    files: &[],
+    reads: &[],
+    puts: &[],
+    fetches: &[],
+    room: 4096,
+    status: 0,
+    transcript: &[],
+};
 
 /// The last lines of a VCPU whose registers from x8 on are 0, and whose CSRs are those of a reset.
 const TAIL: &[u8] =
@@ -22,7 +57,21 @@ sscratch=0000000000000000 sepc=0000000000000000 scause=0000000000000000 stval=00
 satp=0000000000000000 scounteren=0000000000000000 senvcfg=0000000000000000 timer=ffffffffffffffff
 ";
 
-pub const ROWS: [Row; 5] = [
+const IMAGE: FileOf = FileOf {
+    name: b"i",
+    base: Base::Image,
+    len: 16,
+    fills: &[],
+};
+
+const EMPTY: FileOf = FileOf {
+    name: b"none",
+    base: Base::Nothing,
+    len: 0,
+    fills: &[],
+};
+
+pub static ROWS: [Row; 29] = [
     Row {
         message: "the first script",
         script: b"guest flat a 4
@@ -42,6 +91,7 @@ x4=0000000000000000 x5=0000000000000007 x6=0000000000000006 x7=000000000000000d
 ",
             TAIL,
         ],
+        ..PLAIN
     },
     Row {
         message: "three turns of a loop of ADDI and JAL",
@@ -62,6 +112,7 @@ x4=0000000000000000 x5=00000000000005dc x6=0000000000000000 x7=0000000000000000
 ",
             TAIL,
         ],
+        ..PLAIN
     },
     Row {
         message: "bytes behind the last page",
@@ -90,6 +141,7 @@ sscratch=0000000000000000 sepc=0000000000000000 scause=0000000000000001 stval=00
 satp=0000000000000000 scounteren=0000000000000000 senvcfg=0000000000000000 timer=ffffffffffffffff
 ",
         ],
+        ..PLAIN
     },
     Row {
         message: "more pages than there are frames",
@@ -107,6 +159,7 @@ ran 1 idle 1 now 100
 refused guest
 ",
         ],
+        ..PLAIN
     },
     Row {
         message: "WFI with nothing enabled: later turns are idle",
@@ -127,5 +180,424 @@ x4=0000000000000000 x5=0000000000000000 x6=0000000000000000 x7=0000000000000000
 ",
             TAIL,
         ],
+        ..PLAIN
     },
+    Row {
+        message: "no line",
+        script: b"",
+        ..PLAIN
+    },
+    Row {
+        message: "carriage returns, tabs, blank lines, comments, a last line without its end",
+        script: b"# a\r\n\tguest  flat\ta 1 \r\n\n \t\r\nrun 1",
+        transcript: &[b"created a vcpus 1 regions 1 frames 3\nran 1 idle 1 now 100\n"],
+        ..PLAIN
+    },
+    Row {
+        message: "lines that are not built",
+        script: b"clock 1
+tick 1
+guest list
+guest pause a
+guest audit a
+vserial dump a/u
+vserial list
+",
+        transcript: &[
+            b"refused unbuilt
+refused unbuilt
+refused unbuilt
+refused unbuilt
+refused unbuilt
+refused unbuilt
+refused unbuilt
+",
+        ],
+        ..PLAIN
+    },
+    Row {
+        message: "a name in use comes before a second guest, and that before the fetch",
+        script: b"guest flat a 1
+guest flat a 1
+guest create a t
+guest flat b 1
+guest create b t
+guest regs a 1
+guest regs b 0
+",
+        fetches: &[0],
+        transcript: &[
+            b"created a vcpus 1 regions 1 frames 3
+refused used
+refused used
+refused unbuilt
+refused unbuilt
+refused vcpu
+refused guest
+",
+        ],
+        ..PLAIN
+    },
+    Row {
+        message: "as many turns as a script may have",
+        script: b"run 100000
+run 100000
+run 100000
+run 100000
+run 100000
+run 100000
+run 100000
+run 100000
+run 100000
+run 100000
+run 1
+",
+        transcript: &[
+            b"ran 100000 idle 100000 now 10000000
+ran 100000 idle 100000 now 20000000
+ran 100000 idle 100000 now 30000000
+ran 100000 idle 100000 now 40000000
+ran 100000 idle 100000 now 50000000
+ran 100000 idle 100000 now 60000000
+ran 100000 idle 100000 now 70000000
+ran 100000 idle 100000 now 80000000
+ran 100000 idle 100000 now 90000000
+ran 100000 idle 100000 now 100000000
+refused turns
+",
+        ],
+        ..PLAIN
+    },
+    Row {
+        message: "an image, memory and its digest",
+        script: b"guest flat a 1
+guest digest a
+guest load a 0x80000000 i
+guest mem a 0x80000000 4
+guest mem a 0x80000ffc 8
+guest digest a
+guest load a 0x80000ff1 i
+guest load a 0x80001000 none
+guest load a 0x80001001 none
+guest load a 0 j
+guest load b 0 i
+guest kick a
+guest load a 0x80000000 j
+",
+        files: &[IMAGE, EMPTY],
+        transcript: &[
+            b"created a vcpus 1 regions 1 frames 3
+digest a ad7facb2586fc6e966c004d7d1d16b024f5805ff7cb47c7a85dabd8b48892ca7
+loaded a 16
+mem a 0000000080000000 93027000
+refused outside
+digest a 98e8dff19415a973fea7d30475673b90dcfd3c8a7bd78876bb30f8e1c534c160
+refused outside
+loaded a 0
+refused outside
+refused missing
+refused guest
+kicked a
+refused state
+",
+        ],
+        ..PLAIN
+    },
+    Row {
+        message: "the first fetch fails",
+        script: b"guest flat a 1\nguest load a 0x80000000 i\nguest digest a\n",
+        files: &[IMAGE],
+        fetches: &[0],
+        status: 6,
+        transcript: &[b"created a vcpus 1 regions 1 frames 3\n"],
+        ..PLAIN
+    },
+    Row {
+        message: "the second fetch fails",
+        script: b"guest create a t\nguest flat a 1\nguest load a 0x80000000 i\n",
+        files: &[IMAGE],
+        fetches: &[1],
+        status: 6,
+        transcript: &[b"refused missing\ncreated a vcpus 1 regions 1 frames 3\n"],
+        ..PLAIN
+    },
+    Row {
+        message: "the first read fails",
+        script: b"run 1\n",
+        reads: &[0],
+        status: 4,
+        ..PLAIN
+    },
+    Row {
+        message: "a read behind the last byte fails",
+        script: b"run 1\n",
+        reads: &[1],
+        status: 4,
+        ..PLAIN
+    },
+    Row {
+        message: "put number 0 fails",
+        script: b"run 1\nrun 2\nrun 3\n",
+        puts: &[0],
+        status: 5,
+        ..PLAIN
+    },
+    Row {
+        message: "put number 1 fails",
+        script: b"run 1\nrun 2\nrun 3\n",
+        puts: &[1],
+        status: 5,
+        transcript: &[b"ran 1 idle 1 now 100\n"],
+        ..PLAIN
+    },
+    Row {
+        message: "put number 2 fails",
+        script: b"run 1\nrun 2\nrun 3\n",
+        puts: &[2],
+        status: 5,
+        transcript: &[b"ran 1 idle 1 now 100\nran 2 idle 2 now 300\n"],
+        ..PLAIN
+    },
+    Row {
+        message: "a sink of 25 bytes",
+        script: b"run 1\nrun 2\nrun 3\n",
+        room: 25,
+        status: 5,
+        transcript: &[b"ran 1 idle 1 now 100\n"],
+        ..PLAIN
+    },
+    Row {
+        message: "the line of a refused script does not fit",
+        script: b"guest fly a\n",
+        room: 10,
+        status: 5,
+        ..PLAIN
+    },
+    Row {
+        message: "script 0 long",
+        script: b"#",
+        marks: 1_048_576,
+        status: 3,
+        transcript: &[b"script 0 long\n"],
+        ..PLAIN
+    },
+    Row {
+        message: "script 1 word",
+        script: b"guest fly a",
+        status: 3,
+        transcript: &[b"script 1 word\n"],
+        ..PLAIN
+    },
+    Row {
+        message: "script 1 count",
+        script: b"guest kick",
+        status: 3,
+        transcript: &[b"script 1 count\n"],
+        ..PLAIN
+    },
+    Row {
+        message: "script 1 name",
+        script: b"guest kick 9a",
+        status: 3,
+        transcript: &[b"script 1 name\n"],
+        ..PLAIN
+    },
+    Row {
+        message: "script 1 number",
+        script: b"run x",
+        status: 3,
+        transcript: &[b"script 1 number\n"],
+        ..PLAIN
+    },
+    Row {
+        message: "script 1 range",
+        script: b"guest mem a 0 0",
+        status: 3,
+        transcript: &[b"script 1 range\n"],
+        ..PLAIN
+    },
+    Row {
+        message: "script 1 hex",
+        script: b"guest poke a 0 abc",
+        status: 3,
+        transcript: &[b"script 1 hex\n"],
+        ..PLAIN
+    },
+    Row {
+        message: "script 1 byte",
+        script: b"#\x01",
+        status: 3,
+        transcript: &[b"script 1 byte\n"],
+        ..PLAIN
+    },
+    Row {
+        message: "script 3 range",
+        script: b"run 1\n\nrun 0",
+        status: 3,
+        transcript: &[b"script 3 range\n"],
+        ..PLAIN
+    },
+];
+
+/// A tree that one `guest create` names: what it is, what the line answers, and the file.
+pub type TreeRow = (&'static str, &'static [u8], Base, usize, &'static [Fill]);
+
+pub static TREES: [TreeRow; 21] = [
+    (
+        "the least tree",
+        b"refused plan aspace 0\n",
+        Base::Least,
+        72,
+        &[],
+    ),
+    (
+        "another magic",
+        b"refused tree magic 0\n",
+        Base::Least,
+        72,
+        &[(0, 1, 4, 0xD10D_FEED)],
+    ),
+    (
+        "an end in the root",
+        b"refused tree balance 64\n",
+        Base::Least,
+        72,
+        &[(64, 1, 4, 9)],
+    ),
+    (
+        "an end without an end of the root",
+        b"refused tree balance 68\n",
+        Base::Least,
+        72,
+        &[(64, 1, 4, 4)],
+    ),
+    (
+        "no token",
+        b"refused tree token 64\n",
+        Base::Least,
+        72,
+        &[(64, 1, 4, 5)],
+    ),
+    (
+        "a property that is cut",
+        b"refused tree short 64\n",
+        Base::Least,
+        72,
+        &[(64, 1, 4, 3), (68, 1, 4, 100)],
+    ),
+    ("39 bytes", b"refused tree short 39\n", Base::Least, 39, &[]),
+    (
+        "a no-operation before the root",
+        b"refused plan aspace 0\n",
+        Base::Least,
+        76,
+        &[
+            (4, 1, 4, 76),
+            (12, 1, 4, 76),
+            (36, 1, 4, 20),
+            (56, 1, 4, 4),
+            (60, 1, 4, 1),
+            (64, 1, 4, 0),
+            (68, 1, 4, 2),
+            (72, 1, 4, 9),
+        ],
+    ),
+    (
+        "17 nodes in one another",
+        b"refused tree deep 184\n",
+        Base::Least,
+        192,
+        &[
+            (4, 1, 4, 192),
+            (12, 1, 4, 192),
+            (36, 1, 4, 136),
+            (56, 17, 8, 1),
+            (60, 1, 8, 0),
+            (68, 16, 8, 0x6100_0000),
+        ],
+    ),
+    (
+        "one byte too many",
+        b"refused big\n",
+        Base::Nothing,
+        1_048_577,
+        &[],
+    ),
+    (
+        "as many bytes as a tree may have",
+        b"refused tree magic 0\n",
+        Base::Nothing,
+        1_048_576,
+        &[],
+    ),
+    (
+        "the payload",
+        b"refused unbuilt\n",
+        Base::Payload,
+        1171,
+        &[NO_ALIAS, NO_PART],
+    ),
+    (
+        "the payload with an alias",
+        b"refused unbuilt\n",
+        Base::Payload,
+        1171,
+        &[NO_PART],
+    ),
+    (
+        "a ROM over the memory",
+        b"refused plan overlap 0 1\n",
+        Base::Payload,
+        1171,
+        &[NO_ALIAS, NO_PART, (ROM, 1, 4, 0x807F_F000)],
+    ),
+    (
+        "a UART over the memory",
+        b"refused plan overlap 0 3\n",
+        Base::Payload,
+        1171,
+        &[NO_ALIAS, NO_PART, (UART, 1, 4, 0x8000_0000)],
+    ),
+    (
+        "an alias past the memory",
+        b"refused plan alias 11\n",
+        Base::Payload,
+        1171,
+        &[NO_PART, (TARGET, 1, 4, 0x807F_F000)],
+    ),
+    (
+        "an alias of a device",
+        b"refused plan alias 11\n",
+        Base::Payload,
+        1171,
+        &[NO_PART, (TARGET, 1, 4, 0x1000_0000)],
+    ),
+    (
+        "a reserved region where nothing is reserved",
+        b"refused plan host 11\n",
+        Base::Payload,
+        1171,
+        &[NO_ALIAS],
+    ),
+    (
+        "one VCPU and its memory",
+        b"created a vcpus 1 regions 1 frames 2053\n",
+        Base::Payload,
+        1171,
+        &[NO_VCPU1, NO_ROM, NO_VIRTUAL, NO_ALIAS, NO_PART],
+    ),
+    (
+        "two VCPUs and their memory",
+        b"refused unbuilt\n",
+        Base::Payload,
+        1171,
+        &[NO_ROM, NO_VIRTUAL, NO_ALIAS, NO_PART],
+    ),
+    (
+        "one VCPU and a ROM",
+        b"refused unbuilt\n",
+        Base::Payload,
+        1171,
+        &[NO_VCPU1, NO_VIRTUAL, NO_ALIAS, NO_PART],
+    ),
 ];

@@ -1,80 +1,78 @@
-use Rattle.std.proofs.Common.{◌∙◌, subst, refl, sym, arith}
+use Rattle.std.proofs.Common.{◌∙◌, [], refl, sym, ap, subst, arith}
 use Rattle.xv_base.specs.Fault.{Rose}
 use Rattle.xv_hart.specs.Hart.{taken_by}
 use Rattle.xv_top.specs.Manager.{world_of}
-use Rattle.xv_top.proofs.FoldLemmas.{IsAnswered, answered_start, answered_more, answered_front}
-use Rattle.xv_top.proofs.FoldLemmas.{answered_taken, answered_world, answered_work}
+use Rattle.xv_top.specs.Run.{HaveRun}
+use Rattle.xv_top.proofs.FoldLemmas.{run_none, run_more, run_cut, run_stops}
 use Rattle.xv_top.proofs.program.run_all.Goals as goal
 
-pub loop-command-init : goal.loop-command-init
-loop-command-init g c =
+pub loop-line-init : goal.loop-line-init
+loop-line-init g c =
     let first = world_of c.args.manager.now c.args.machine.now.mem in
     let taken = g.K.Sink.taken c.args.sink.now in
     record {
-      answered = subst (IsAnswered c.args.all.now 0 first first taken taken) (sym c.requires.taken)
-          (answered_start c.args.all.now first taken);
+      run = λ told is. subst (HaveRun told [] first first taken taken) (sym c.requires.taken)
+          (run_none told first taken);
       sound = c.requires.sound;
       fit = c.requires.fit;
       size = refl;
       area = refl;
       few = omega (arith, c.requires.taken);
       quiet = refl;
+      map = refl;
+      files_quiet = refl;
     }
 
-pub loop-command-preserved : goal.loop-command-preserved
-loop-command-preserved g c =
-    let inv = c.loop-command.invariant in
+pub loop-line-preserved : goal.loop-line-preserved
+loop-line-preserved g c =
+    let inv = c.loop-line.invariant in
     let first = world_of c.args.manager.now c.args.machine.now.mem in
-    let now = world_of c.loop-command.manager c.loop-command.machine.mem in
+    let now = world_of c.loop-line.manager c.loop-line.machine.mem in
     let after = world_of c.apply.new.self c.apply.new.machine.mem in
     record {
-      answered = answered_more c.args.all.now c.loop-command.command-index first now after
-          (g.K.Sink.taken c.args.sink.now) (g.K.Sink.taken c.loop-command.sink)
-          (g.K.Sink.taken c.put.new.self) (taken_by c.loop-command.machine.hart)
-          (taken_by c.apply.new.machine.hart)
-          c.loop-command-test.true c.command-item.result c.command-item.is inv.answered
-          c.bytes.result.now (c.bytes.ensures.printed ∙ c.apply.ensures.answer.text)
-          c.apply.ensures.answer.world c.in-Ok.ensures.appended c.apply.ensures.work;
+      run = λ told is.
+          let gives = c.in-Ok.ensures.answer told (inv.map ∙ is) in
+          run_more told c.args.lines.now c.loop-line.line-index c.loop-line-test.true
+          c.line-item.result c.line-item.is first now after (g.K.Sink.taken c.args.sink.now)
+          (g.K.Sink.taken c.loop-line.sink) (g.K.Sink.taken c.put.new.self)
+          (taken_by c.loop-line.machine.hart) (taken_by c.apply.new.machine.hart)
+          (inv.run told is) c.bytes.result.now (c.bytes.ensures.printed ∙ gives.text)
+          gives.world gives.work c.in-Ok-put.ensures.appended;
       sound = c.apply.ensures.sound;
       fit = c.apply.ensures.fit;
       size = c.apply.ensures.size ∙ inv.size;
       area = c.apply.ensures.area ∙ inv.area;
       few = omega (arith, c.apply.ensures.few, inv.few);
-      quiet = c.in-Ok.ensures.quiet ∙ inv.quiet;
+      quiet = c.in-Ok-put.ensures.quiet ∙ inv.quiet;
+      map = c.apply.ensures.map ∙ inv.map;
+      files_quiet = c.in-Ok.ensures.quiet ∙ inv.files_quiet;
     }
 
 pub returns-in-Err-clause-stopped : goal.returns-in-Err-clause-stopped
-returns-in-Err-clause-stopped g c =
-    let inv = c.loop-command.invariant in
+returns-in-Err-clause-stopped g c stop ended told is =
+    let inv = c.loop-line.invariant in
+    let stopped = c.in-Err.ensures.stopped in
     let first = world_of c.args.manager.now c.args.machine.now.mem in
-    let now = world_of c.loop-command.manager c.loop-command.machine.mem in
+    let now = world_of c.loop-line.manager c.loop-line.machine.mem in
     let after = world_of c.apply.new.self c.apply.new.machine.mem in
-    record {
-      front = answered_front c.args.all.now c.loop-command.command-index first now after
-          (g.K.Sink.taken c.args.sink.now) (g.K.Sink.taken c.loop-command.sink)
-          (g.K.Sink.taken c.put.new.self) (taken_by c.loop-command.machine.hart)
-          (taken_by c.apply.new.machine.hart)
-          c.loop-command-test.true c.command-item.result c.command-item.is inv.answered
-          c.bytes.result.now (c.bytes.ensures.printed ∙ c.apply.ensures.answer.text)
-          c.apply.ensures.answer.world c.in-Err.ensures.front;
-      cause = subst (λ n. Rose n (g.K.Sink.faults c.put.new.self)) inv.quiet c.in-Err.ensures.cause;
-    }
+    run_stops told c.args.lines.now c.loop-line.line-index c.loop-line-test.true
+    c.line-item.result c.line-item.is first now after (g.K.Sink.taken c.args.sink.now)
+    (g.K.Sink.taken c.loop-line.sink) (g.K.Sink.taken c.loop-line.sink)
+    (taken_by c.loop-line.machine.hart) (taken_by c.apply.new.machine.hart)
+    (inv.run told is) c.in-Err.ensures.fetching
+    (ap (λ m. world_of m c.apply.new.machine.mem) stopped.manager
+    ∙ ap (world_of c.loop-line.manager) stopped.memory) stopped.taken refl
 
-pub returns-clause-ran : goal.returns-clause-ran
-returns-clause-ran g c =
-    let inv = c.loop-command.invariant in
+pub returns-in-Err-put-clause-cut : goal.returns-in-Err-put-clause-cut
+returns-in-Err-put-clause-cut g c ended told is =
+    let inv = c.loop-line.invariant in
+    let gives = c.in-Ok.ensures.answer told (inv.map ∙ is) in
     let first = world_of c.args.manager.now c.args.machine.now.mem in
-    let now = world_of c.loop-command.manager c.loop-command.machine.mem in
-    let taken_first = g.K.Sink.taken c.args.sink.now in
-    let taken_now = g.K.Sink.taken c.loop-command.sink in
-    let stepped = taken_by c.loop-command.machine.hart in
-    record {
-      taken = answered_taken c.args.all.now c.loop-command.command-index first now taken_first
-          taken_now stepped c.loop-command-test.false inv.answered;
-      world = answered_world c.args.all.now c.loop-command.command-index first now taken_first
-          taken_now stepped c.loop-command-test.false inv.answered;
-      work = answered_work c.args.all.now c.loop-command.command-index first now taken_first
-          taken_now stepped c.loop-command-test.false inv.answered;
-      size = inv.size;
-      area = inv.area;
-    }
+    let now = world_of c.loop-line.manager c.loop-line.machine.mem in
+    let after = world_of c.apply.new.self c.apply.new.machine.mem in
+    run_cut told c.args.lines.now c.loop-line.line-index c.loop-line-test.true
+    c.line-item.result c.line-item.is first now after (g.K.Sink.taken c.args.sink.now)
+    (g.K.Sink.taken c.loop-line.sink) (g.K.Sink.taken c.put.new.self)
+    (taken_by c.loop-line.machine.hart) (taken_by c.apply.new.machine.hart)
+    (inv.run told is) c.bytes.result.now (c.bytes.ensures.printed ∙ gives.text)
+    gives.world gives.work c.in-Err-put.ensures.front

@@ -1,37 +1,51 @@
 use Rattle.std.proofs.Common.{◌∙◌, length, subst, sym, ap}
 use Rattle.std.proofs.lemmas.List.{length-replicate}
-use Rattle.xv_top.specs.Layout.{memory_size}
 use Rattle.std.proofs.lemmas.Result.{on_ok_weaker}
 use Rattle.xv_top.specs.Boot.{IsTextOf}
-use Rattle.xv_top.proofs.BootLemmas.{run_is, refused_is, cut_is}
+use Rattle.xv_top.specs.Layout.{memory_size}
+use Rattle.xv_top.proofs.BootLemmas.{run_is, refused_is, stopped_is, cut_is}
 use Rattle.xv_top.proofs.program.serve.Goals as goal
 
 pub returns-in-Ok-read_script-clause-run : goal.returns-in-Ok-read_script-clause-run
-returns-in-Ok-read_script-clause-run g c =
+returns-in-Ok-read_script-clause-run g c files is =
     let left = g.S.Source.left c.args.source.now in
     let told = subst (IsTextOf left) (sym c.deref.ensures.value) c.in-Ok-read_script.ensures.text in
     on_ok_weaker c.run_script.result
     (run_is c.args.mib left (g.S.Source.left c.read_script.new.source)
     (g.K.Sink.taken c.args.sink.now) (g.K.Sink.taken c.run_script.new.sink) c.deref.result.now
-    told c.run_script.new.machine c.in-Ok-read_script.ensures.left)
-    (c.run_script.ensures.served c.args.mib (ap length c.in-Ok.ensures.memory
-    ∙ length-replicate (memory_size c.args.mib) 0) c.in-Ok.ensures.area)
+    told c.run_script.new.machine files
+    c.in-Ok-read_script.ensures.left)
+    (c.run_script.ensures.served c.args.mib files (ap length c.in-Ok.ensures.memory
+    ∙ length-replicate (memory_size c.args.mib) 0)
+    c.in-Ok.ensures.area is)
 
 pub returns-in-Ok-read_script-clause-refused : goal.returns-in-Ok-read_script-clause-refused
-returns-in-Ok-read_script-clause-refused g c h =
+returns-in-Ok-read_script-clause-refused g c ended =
     let left = g.S.Source.left c.args.source.now in
     let told = subst (IsTextOf left) (sym c.deref.ensures.value) c.in-Ok-read_script.ensures.text in
     refused_is c.args.mib left (g.S.Source.left c.read_script.new.source)
     (g.K.Sink.taken c.args.sink.now) (g.K.Sink.taken c.run_script.new.sink) c.deref.result.now
-    told c.in-Ok-read_script.ensures.left (c.run_script.ensures.refused h)
-    (c.run_script.ensures.refused_line h)
+    told c.run_script.new.machine
+    c.in-Ok-read_script.ensures.left (c.run_script.ensures.refused ended)
 
-pub returns-in-Ok-read_script-clause-write_fault : goal.returns-in-Ok-read_script-clause-write_fault
-returns-in-Ok-read_script-clause-write_fault g c h =
+pub returns-in-Ok-read_script-clause-cut : goal.returns-in-Ok-read_script-clause-cut
+returns-in-Ok-read_script-clause-cut g c files is ended =
     let left = g.S.Source.left c.args.source.now in
     let told = subst (IsTextOf left) (sym c.deref.ensures.value) c.in-Ok-read_script.ensures.text in
     cut_is c.args.mib left (g.S.Source.left c.read_script.new.source)
     (g.K.Sink.taken c.args.sink.now) (g.K.Sink.taken c.run_script.new.sink) c.deref.result.now
-    told (g.K.Sink.faults c.args.sink.now) (g.K.Sink.faults c.run_script.new.sink)
-    (c.run_script.ensures.write_fault c.args.mib (ap length c.in-Ok.ensures.memory
-    ∙ length-replicate (memory_size c.args.mib) 0) h) (c.run_script.ensures.cause h)
+    told c.run_script.new.machine files
+    (c.run_script.ensures.cut c.args.mib files (ap length c.in-Ok.ensures.memory
+    ∙ length-replicate (memory_size c.args.mib) 0)
+    c.in-Ok.ensures.area is ended)
+
+pub returns-in-Ok-read_script-clause-stopped : goal.returns-in-Ok-read_script-clause-stopped
+returns-in-Ok-read_script-clause-stopped g c files stop is ended =
+    let left = g.S.Source.left c.args.source.now in
+    let told = subst (IsTextOf left) (sym c.deref.ensures.value) c.in-Ok-read_script.ensures.text in
+    stopped_is c.args.mib left (g.S.Source.left c.read_script.new.source)
+    (g.K.Sink.taken c.args.sink.now) (g.K.Sink.taken c.run_script.new.sink) c.deref.result.now
+    told c.run_script.new.machine files
+    (c.run_script.ensures.stopped c.args.mib files stop (ap length c.in-Ok.ensures.memory
+    ∙ length-replicate (memory_size c.args.mib) 0)
+    c.in-Ok.ensures.area is ended)

@@ -1,10 +1,10 @@
 use Rattle.std.proofs.Common.{◌∙◌, ◌+◌, ◌<◌, ◌≤◌, refl, sym, ap, codes, arith}
 use Rattle.std.proofs.lemmas.Bool.{cond-true, cond-false, lt-ltb, le-ltb}
-use Rattle.xv_top.specs.Texts.{ran_text}
+use Rattle.xv_top.specs.Texts.{ran_text, refused_text}
 use Rattle.xv_top.specs.World.{most_turns, run_of}
-use Rattle.xv_top.specs.Answer.{Answer, refused, ran_answer}
+use Rattle.xv_top.specs.Commands.{ran_answer}
 use Rattle.xv_top.specs.Manager.{world_of}
-use Rattle.xv_top.proofs.ManagerLemmas.{gives_by, keeps_by, keeps_all, run_is}
+use Rattle.xv_top.proofs.ManagerLemmas.{gives_by, gives_text, keeps_by, keeps_all}
 use Rattle.xv_top.proofs.manager.Manager.run.Goals as goal
 
 pub returns-then-self-turns-clause-answer : goal.returns-then-self-turns-clause-answer
@@ -12,24 +12,12 @@ returns-then-self-turns-clause-answer g c =
     let w = world_of c.args.self.now c.args.machine.now.mem in
     let many : most_turns < w.turns + c.args.turns =
     omega (arith, c.if-self-turns.true, c.requires.sound.turns) in
-    gives_by _ (refused w (codes "turns")) (run_is w c.args.turns
-    ∙ cond-true _ _ _ (lt-ltb most_turns (w.turns + c.args.turns) many))
-    (record { text = c.refused.ensures; world = refl })
+    gives_text _ {text = refused_text (codes "turns")}
+    (cond-true _ _ _ (lt-ltb most_turns (w.turns + c.args.turns) many)) c.refused.ensures refl
 
 pub returns-then-self-turns-clause-keeps : goal.returns-then-self-turns-clause-keeps
 returns-then-self-turns-clause-keeps g c =
     keeps_all _ c.args.self.now c.args.machine.now.mem c.args.machine.now.mem refl
-
-pub returns-then-self-turns-clause-work : goal.returns-then-self-turns-clause-work
-returns-then-self-turns-clause-work g c =
-    let w = world_of c.args.self.now c.args.machine.now.mem in
-    let many : most_turns < w.turns + c.args.turns =
-    omega (arith, c.if-self-turns.true, c.requires.sound.turns) in
-    omega (
-      arith,
-      ap (λ (a : Answer). a.work) (run_is w c.args.turns
-          ∙ cond-true _ _ _ (lt-ltb most_turns (w.turns + c.args.turns) many)),
-    )
 
 pub returns-clause-answer : goal.returns-clause-answer
 returns-clause-answer g c =
@@ -39,7 +27,7 @@ returns-clause-answer g c =
     omega (arith, c.if-self-turns.false, c.requires.sound.turns) in
     let end = c.make_turns-idle.ensures.end in
     gives_by _ (ran_answer c.args.turns run)
-    (run_is w c.args.turns ∙ cond-false _ _ _ (le-ltb most_turns (w.turns + c.args.turns) few))
+    (cond-false _ _ _ (le-ltb most_turns (w.turns + c.args.turns) few))
     (record {
       text = c.ran.ensures
           ∙ (ap (λ t. ran_text t c.from-2.result c.make_turns-idle.new.self.clock) c.from.ensures
@@ -47,6 +35,7 @@ returns-clause-answer g c =
           (c.from-2.ensures ∙ sym end.idle)
           ∙ ap (λ x. ran_text c.args.turns run.idle x.clock) (sym end.world)));
       world = sym end.world;
+      work = end.work;
     })
 
 pub returns-clause-keeps : goal.returns-clause-keeps
@@ -54,19 +43,6 @@ returns-clause-keeps g c =
     let w = world_of c.args.self.now c.args.machine.now.mem in
     let few : w.turns + c.args.turns ≤ most_turns =
     omega (arith, c.if-self-turns.false, c.requires.sound.turns) in
-    keeps_by _ (ran_answer c.args.turns (run_of c.args.turns w)) (run_is w c.args.turns
-    ∙ cond-false _ _ _ (le-ltb most_turns (w.turns + c.args.turns) few))
+    keeps_by _ (ran_answer c.args.turns (run_of c.args.turns w))
+    (cond-false _ _ _ (le-ltb most_turns (w.turns + c.args.turns) few))
     c.make_turns-idle.ensures.keeps
-
-pub returns-clause-work : goal.returns-clause-work
-returns-clause-work g c =
-    let w = world_of c.args.self.now c.args.machine.now.mem in
-    let few : w.turns + c.args.turns ≤ most_turns =
-    omega (arith, c.if-self-turns.false, c.requires.sound.turns) in
-    omega (
-      arith,
-      c.make_turns-idle.ensures.end.work,
-      ap (λ (a : Answer). a.work)
-          (run_is w c.args.turns
-          ∙ cond-false _ _ _ (le-ltb most_turns (w.turns + c.args.turns) few)),
-    )

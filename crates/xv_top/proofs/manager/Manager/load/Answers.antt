@@ -1,0 +1,24 @@
+use Rattle.std.proofs.Common.{◌∙◌, ap, sym}
+use Rattle.xv_top.specs.Contents.{load_bytes, load_file}
+use Rattle.xv_top.specs.Manager.{live_guest, world_of}
+use Rattle.xv_top.proofs.ManagerLemmas.{gives_by, load_fetches, some_at}
+use Rattle.xv_top.proofs.manager.Manager.load.Goals as goal
+
+pub returns-in-Ok-Some-clause-answer : goal.returns-in-Ok-Some-clause-answer
+returns-in-Ok-Some-clause-answer g c told taken is =
+    let host = c.args.machine.now.mem in
+    let w = world_of c.args.self.now host in
+    let name = c.args.name.now in
+    let live = live_guest c.in-Some.guest host in
+    gives_by _ _
+    (c.in-Some.ensures.next host (load_file told w name c.args.gpa c.args.file.now)
+    ∙ (some_at _ c.in-Ok-Some.field-0 c.in-Ok-Some.bytes c.in-Ok-Some.field-0-is
+    c.in-Ok-Some.ensures.bytes told w (load_bytes w name c.args.gpa live) is
+    ∙ ap (load_bytes w name c.args.gpa live) (sym c.deref.ensures.value)))
+    (c.load_bytes.ensures.answer taken)
+
+pub returns-in-Err-clause-fetching : goal.returns-in-Err-clause-fetching
+returns-in-Err-clause-fetching g c =
+    let host = c.args.machine.now.mem in
+    load_fetches (world_of c.args.self.now host) c.args.name.now c.args.gpa c.args.file.now
+    (c.in-Some.ensures.loadable host)

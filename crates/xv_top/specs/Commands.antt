@@ -1,0 +1,82 @@
+-- What each command answers.
+use Rattle.std.specs.Prelude.{ℕ, ◌+◌, nat_lt, Bool, true, false, not, ◌&&◌, if◌then◌else◌, List}
+use Rattle.std.specs.Prelude.{length, Option, Some, None, is_some, slice_get, codes}
+use Rattle.xv_outside.specs.Fetch.{FileMap}
+use Rattle.xv_lone.specs.declared.vcpu.VcpuView.{VcpuView}
+use Rattle.xv_lone.specs.Ready.{is_reset}
+use Rattle.xv_lone.specs.Journal as change
+use Rattle.xv_script.specs.declared.command.Command.{Command}
+use Rattle.xv_script.specs.declared.command.Command.TheVariants as command
+use Rattle.xv_top.specs.Answer.{Answer, says, refused, changes, where_there, where_reset}
+use Rattle.xv_top.specs.Births.{create_answer, flat_answer}
+use Rattle.xv_top.specs.Contents.{load_guest, poke_guest, mem_guest, digest_guest}
+use Rattle.xv_top.specs.Texts.{kicked_text, ran_text, regs_text}
+use Rattle.xv_top.specs.World.{LiveGuest, World, RunSoFar, most_turns, guest_named, run_of}
+
+-- `guest kick`
+abbrev pub kick_guest : World → (name : List ℕ) → Option LiveGuest → Answer
+kick_guest w name o = where_reset w (λ g. changes w name change.Kick (kicked_text name)) o
+
+-- `guest regs`
+abbrev pub regs_of_vcpu : World → (name : List ℕ) → ℕ → Option VcpuView → Answer
+regs_of_vcpu w name vcpu None = refused w (codes "vcpu")
+regs_of_vcpu w name vcpu (Some v) = says w (regs_text name vcpu v)
+
+abbrev pub regs_guest : World → (name : List ℕ) → ℕ → Option LiveGuest → Answer
+regs_guest w name vcpu o =
+    where_there w (λ g. regs_of_vcpu w name vcpu (slice_get g.machine.vcpus vcpu)) o
+
+-- `run`
+abbrev pub ran_answer : ℕ → RunSoFar → Answer
+ran_answer turns r = record {
+  text = ran_text turns r.idle r.world.clock;
+  world = r.world;
+  entries = r.entries;
+  work = r.work;
+}
+
+abbrev pub run_answer : World → ℕ → Answer
+run_answer w turns =
+    if nat_lt most_turns (w.turns + turns)
+    then refused w (codes "turns")
+    else ran_answer turns (run_of turns w)
+
+-- a line that isn't built yet
+abbrev pub unbuilt : World → Answer
+unbuilt w = refused w (codes "unbuilt")
+
+unfoldable pub answer : FileMap → World → Command → Answer
+answer files w (command.Create name file) = create_answer files w name file
+answer files w (command.Flat name pages) = flat_answer w name pages
+answer files w (command.Load name gpa file) = load_guest files w name gpa file (guest_named name w)
+answer files w (command.Poke name gpa bytes) = poke_guest w name gpa bytes (guest_named name w)
+answer files w (command.Kick name) = kick_guest w name (guest_named name w)
+answer files w (command.Pause name) = unbuilt w
+answer files w (command.Resume name) = unbuilt w
+answer files w (command.Reset name) = unbuilt w
+answer files w (command.Halt name) = unbuilt w
+answer files w (command.Destroy name) = unbuilt w
+answer files w (command.Regs name vcpu) = regs_guest w name vcpu (guest_named name w)
+answer files w (command.Mem name gpa len) = mem_guest w name gpa len (guest_named name w)
+answer files w (command.Digest name) = digest_guest w name (guest_named name w)
+answer files w (command.Audit name) = unbuilt w
+answer files w command.List = unbuilt w
+answer files w (command.Input name port bytes) = unbuilt w
+answer files w (command.Dump name port) = unbuilt w
+answer files w command.Ports = unbuilt w
+answer files w (command.Clock value) = unbuilt w
+answer files w (command.Tick value) = unbuilt w
+answer files w (command.Run turns) = run_answer w turns
+
+-- ---- what stops a run
+
+abbrev pub is_loadable : Option LiveGuest → Bool
+is_loadable None = false
+is_loadable (Some g) = is_reset g.machine.state
+
+-- the command comes to the fetch of its file, as it is refused by nothing before that
+unfoldable pub is_fetching : World → Command → Bool
+is_fetching w (command.Create name file) =
+    not (is_some (guest_named name w)) && not (nat_lt 0 (length w.guests))
+is_fetching w (command.Load name gpa file) = is_loadable (guest_named name w)
+is_fetching w _ = false

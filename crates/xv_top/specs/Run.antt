@@ -1,0 +1,39 @@
+-- What stands at the end of a run of lines, from a world on.
+use Rattle.std.specs.Prelude.{◌≡◌, ℕ, ◌≤◌, List, [], ◌∷◌, ◌++◌, Option, IsTrue}
+use Rattle.xv_outside.specs.Fetch.{FileMap}
+use Rattle.xv_outside.specs.Outside.{taken_with, TookFront}
+use Rattle.xv_script.specs.declared.command.Line.{Line}
+use Rattle.xv_top.specs.Commands.{answer, is_fetching}
+use Rattle.xv_top.specs.Transcript.{answers, world_after, work_after}
+use Rattle.xv_top.specs.World.{World}
+
+-- the lines were run: the answers to them were taken and nothing else, this is the world that they
+-- leave, and the hart took at least their lone steps
+pub record HaveRun (files : FileMap) (lines : List Line) (first now : World)
+    (taken_old taken_new : Option (List ℕ)) (stepped : ℕ) : Type 0 where
+  pub taken : taken_new ≡ taken_with taken_old (answers files first lines)
+  pub world : now ≡ world_after files first lines
+  pub work : work_after files first lines ≤ stepped
+
+-- a line stopped in the fetch of its file, and those before it were run
+pub record IsStop (files : FileMap) (lines : List Line) (first now : World)
+    (taken_old taken_new : Option (List ℕ)) (stepped : ℕ) : Type 0 where
+  pub before : List Line
+  pub line : Line
+  pub after : List Line
+  pub whole : lines ≡ before ++ line ∷ after
+  pub fetching : IsTrue (is_fetching (world_after files first before) line.command)
+  pub run : HaveRun files before first now taken_old taken_new stepped
+
+-- the sink took the answers to the lines before one, and a front of the answer to that one, which
+-- was run
+pub record IsCut (files : FileMap) (lines : List Line) (first now : World)
+    (taken_old taken_new : Option (List ℕ)) (stepped : ℕ) : Type 0 where
+  pub before : List Line
+  pub line : Line
+  pub after : List Line
+  pub whole : lines ≡ before ++ line ∷ after
+  pub taken : TookFront (taken_with taken_old (answers files first before)) taken_new
+      (answer files (world_after files first before) line.command).text
+  pub world : now ≡ world_after files first (before ++ line ∷ [])
+  pub work : work_after files first (before ++ line ∷ []) ≤ stepped
