@@ -112,7 +112,7 @@ with_bytes [] = 0
 with_bytes ([] ∷ pieces) = with_bytes pieces
 with_bytes ((byte ∷ piece) ∷ pieces) = with_bytes pieces + 1
 
-joined : (number : ℕ) (read : OfLine) (others : OfLines) (all : List Line)
+pub joined : (number : ℕ) (read : OfLine) (others : OfLines) (all : List Line)
     → both_of number read others ≡ Ok all
     → (here : Option Command) × (behind : List Line)
     × (read ≡ Ok here) × (others ≡ Ok behind) × (with_number number here ++ behind ≡ all)
