@@ -1,8 +1,8 @@
 -- The numbers of the commands that lines give are in their ranges.
-use Rattle.std.proofs.Common.{◌≡◌, ℕ, ◌+◌, ◌≤◌, Bool, true, false, ◌&&◌, List, [], ◌∷◌, ◌++◌, arith}
+use Rattle.std.proofs.Common.{◌≡◌, ℕ, ◌+◌, ◌≤◌, Bool, true, false, ◌&&◌, List, [], ◌∷◌, arith}
 use Rattle.std.proofs.Common.{Option, Some, None, Result, Ok, Err, refl, subst, rules}
 use Rattle.std.specs.Prelude.{if◌then◌else◌, ◌==◌, nat_le, length, codes}
-use Rattle.std.specs.List.{All, list_all}
+use Rattle.std.specs.List.{list_all}
 use Rattle.std.specs.Str.Lines.{strip_carriage_return}
 use Rattle.std.specs.Str.{bytes_eq}
 use Rattle.std.proofs.lemmas.Bool.{leb-true}
@@ -12,24 +12,20 @@ use Rattle.xv_script.specs.declared.command.Line.{Line}
 use Rattle.xv_script.specs.declared.fault.ScriptKind.{ScriptKind}
 use Rattle.xv_script.specs.declared.fault.ScriptKind.TheVariants as kind
 use Rattle.xv_script.specs.Command.{IsInRange, AreInRange}
-use Rattle.xv_script.specs.Fault.{◌>>=◌, made_of, or_kind}
-use Rattle.xv_script.specs.Field.{Field, Guest, Port, File, Number, Range, Hex, field_of}
+use Rattle.xv_script.specs.Fault.{◌>>=◌, made_of}
+use Rattle.xv_script.specs.Field.{Field, Guest, Port, File, Number, Range, Hex}
 use Rattle.xv_script.specs.Field.{guest_field, port_field, file_field, number_field, range_field}
 use Rattle.xv_script.specs.Field.{hex_field}
 use Rattle.xv_script.specs.Row.{Maker, Row, fields_of, command_by, command_with, command_in}
 use Rattle.xv_script.specs.Row.{command_of, guest_rows, vserial_rows, other_rows}
 use Rattle.xv_script.specs.Script.{line_of, with_number, commands_from, command_if_any}
 use Rattle.xv_script.specs.Text.{is_allowed, is_comment, words}
-use Rattle.xv_script.proofs.ScriptLemmas.{joined}
+use Rattle.xv_script.proofs.ScriptLemmas.{OfLine, joined}
 
 -- ---- what holds of a choice, and of a number between two
 
 no_value : {A : Type 0} (P : Type 0) (kind : ScriptKind) (x : A) → Err kind ≡ Ok x → P
 no_value P kind x is = cc
-
--- what reading a line gives
-abbrev OfLine : Type 0
-OfLine = Result (Option Command) ScriptKind
 
 no_command : (P : Type 0) (command : Command) (read : OfLine) → read ≡ Ok None
     → read ≡ Ok (Some command) → P

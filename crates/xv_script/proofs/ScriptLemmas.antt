@@ -16,7 +16,7 @@ use Rattle.xv_script.specs.Script.{line_of, with_number, commands_from}
 use Rattle.xv_script.specs.Text.{lines, words}
 
 -- what a line gives, and what lines give
-abbrev OfLine : Type 0
+abbrev pub OfLine : Type 0
 OfLine = Result (Option Command) ScriptKind
 
 abbrev OfLines : Type 0

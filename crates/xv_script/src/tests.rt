@@ -29,18 +29,6 @@ const SCRIPT: &[u8] = b"# a script\r\n\
     tick 0x64\n\
     run 100000\r";
 
-/// A text of so many bytes, all of which are one comment.
-fn comment(alloc: Global, count: usize) -> Result<Vec<u8>, AllocError> {
-    vec![in alloc; b'#'; count]
-}
-
-#[test]
-fn reads_each_line(rt: HostRuntime) -> Result<(), Fail> {
-    let lines = parse(rt.alloc(), SCRIPT).map_err(|_| "a script that is read")?;
-    assert_eq!(rt; lines.len(), 21);
-    Ok(())
-}
-
 /// A script, and the line and the kind of its first fault.
 type Row = (&'static str, u32, ScriptKind);
 
@@ -85,25 +73,25 @@ static FAULTS: [Row; 38] = [
     ("run 1\nrun 2\nrun 0\nguest\n", 3, ScriptKind::Range),
 ];
 
+/// A text of so many bytes, all of which are one comment.
+fn comment(alloc: Global, count: usize) -> Result<Vec<u8>, AllocError> {
+    vec![in alloc; b'#'; count]
+}
+
 #[test]
-fn names_the_first_fault(rt: HostRuntime) -> Result<(), Fail> {
+fn reads_scripts_or_names_the_first_fault(rt: HostRuntime) -> Result<(), Fail> {
+    let longest = comment(rt.alloc(), MOST_BYTES)?;
+    for (text, count) in [(SCRIPT, 21), (longest.as_slice(), 0)] {
+        let lines = parse(rt.alloc(), text).map(|lines| lines.len());
+        assert_eq!(rt; lines, Ok(count));
+    }
     for (text, line, kind) in &FAULTS {
         let wanted = ScriptFault::At {
             line: *line,
             kind: *kind,
         };
-        assert_eq!(rt;
-            parse(rt.alloc(), text.as_bytes()).err(),
-            Some(wanted),
-            "{text}"
-        );
+        let lines = parse(rt.alloc(), text.as_bytes()).map(|lines| lines.len());
+        assert_eq!(rt; lines, Err(wanted), "{text}");
     }
-    Ok(())
-}
-
-#[test]
-fn reads_the_longest_script(rt: HostRuntime) -> Result<(), Fail> {
-    let script = comment(rt.alloc(), MOST_BYTES)?;
-    assert_eq!(rt; parse(rt.alloc(), &script).err(), None);
     Ok(())
 }
