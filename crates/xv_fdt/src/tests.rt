@@ -1,5 +1,4 @@
 //! Files of each kind of fault, the least tree cut at each byte, and the blob of a real tree.
-
 ghost use Rattle.std.specs.Prelude.{◌≤◌};
 
 mod payload;
@@ -21,14 +20,19 @@ macro_rules! at {
     };
 }
 
-/// The words of a file: the header as dtc lays it out, of a structure and strings of so many
-/// bytes; the reservations' end; the structure, and then the strings.
-macro_rules! file {
-    ($size:literal, $strings_size:literal; $($word:expr),*) => {
-        &[
-            MAGIC, 56 + $size + $strings_size, 56, 56 + $size, 40, 17, 16, 0, $strings_size, $size,
-            0, 0, 0, 0, $($word),*
-        ]
+/// A row of a file, and its fault: the header as dtc lays it out, of a structure and strings of so
+/// many bytes; the reservations' end; the structure, and then the strings.
+macro_rules! blob {
+    ($size:literal, $strings_size:literal, [$($word:expr),*], $fault:expr) => {
+        (
+            &[
+                MAGIC, 56 + $size + $strings_size, 56, 56 + $size, 40, 17, 16, 0, $strings_size,
+                $size, 0, 0, 0, 0, $($word),*
+            ],
+            0,
+            MAGIC,
+            $fault,
+        )
     };
 }
 
@@ -52,129 +56,80 @@ const LEAST: [u32; 18] = [
 type Row = (&'static [u32], usize, u32, Option<FdtFault>);
 
 const FILES: [Row; 55] = [
-    (file!(16, 0; 1, 0, 2, 9), 0, MAGIC, None),
+    (&LEAST, 0, MAGIC, None),
     // another token in the place of each
-    (file!(16, 0; 9, 0, 2, 9), 0, MAGIC, at!(Unbalanced, 56)),
-    (file!(16, 0; 2, 0, 2, 9), 0, MAGIC, at!(Unbalanced, 56)),
-    (file!(16, 0; 5, 0, 2, 9), 0, MAGIC, at!(BadToken, 56)),
-    (file!(16, 0; 1, 0, 9, 9), 0, MAGIC, at!(Unbalanced, 64)),
-    (file!(16, 0; 1, 0, 4, 9), 0, MAGIC, at!(Unbalanced, 68)),
-    (file!(16, 0; 1, 0, 5, 9), 0, MAGIC, at!(BadToken, 64)),
-    (file!(16, 0; 1, 0, 3, 100), 0, MAGIC, at!(Short, 64)),
-    (file!(16, 0; 1, 0, 2, 1), 0, MAGIC, at!(Unbalanced, 68)),
-    (file!(16, 0; 1, 0, 2, 2), 0, MAGIC, at!(Unbalanced, 68)),
-    (file!(16, 0; 1, 0, 2, 3), 0, MAGIC, at!(Unbalanced, 68)),
-    (file!(16, 0; 1, 0, 2, 7), 0, MAGIC, at!(BadToken, 68)),
+    blob!(16, 0, [9, 0, 2, 9], at!(Unbalanced, 56)),
+    blob!(16, 0, [2, 0, 2, 9], at!(Unbalanced, 56)),
+    blob!(16, 0, [5, 0, 2, 9], at!(BadToken, 56)),
+    blob!(16, 0, [1, 0, 9, 9], at!(Unbalanced, 64)),
+    blob!(16, 0, [1, 0, 4, 9], at!(Unbalanced, 68)),
+    blob!(16, 0, [1, 0, 5, 9], at!(BadToken, 64)),
+    blob!(16, 0, [1, 0, 3, 100], at!(Short, 64)),
+    blob!(16, 0, [1, 0, 2, 1], at!(Unbalanced, 68)),
+    blob!(16, 0, [1, 0, 2, 2], at!(Unbalanced, 68)),
+    blob!(16, 0, [1, 0, 2, 3], at!(Unbalanced, 68)),
+    blob!(16, 0, [1, 0, 2, 7], at!(BadToken, 68)),
     // no-operations, and what follows the end
-    (file!(20, 0; 4, 1, 0, 2, 9), 0, MAGIC, None),
-    (file!(36, 0; 4, 4, 1, 0, 4, 2, 4, 9, 77), 0, MAGIC, None),
+    blob!(20, 0, [4, 1, 0, 2, 9], None),
+    blob!(36, 0, [4, 4, 1, 0, 4, 2, 4, 9, 77], None),
     // nodes: a name of the root, none of a child, one with a `/`, twins, and a twin in another node
-    (file!(16, 0; 1, A, 2, 9), 0, MAGIC, at!(BadName, 56)),
-    (
-        file!(28, 0; 1, 0, 1, 0, 2, 2, 9),
-        0,
-        MAGIC,
-        at!(BadName, 64),
-    ),
-    (
-        file!(28, 0; 1, 0, 1, 0x2f000000, 2, 2, 9),
-        0,
-        MAGIC,
-        at!(BadName, 64),
-    ),
-    (
-        file!(40, 0; 1, 0, 1, A, 2, 1, A, 2, 2, 9),
-        0,
-        MAGIC,
-        at!(BadName, 76),
-    ),
-    (
-        file!(52, 0; 1, 0, 1, A, 1, A, 2, 2, 1, B, 2, 2, 9),
-        0,
-        MAGIC,
-        None,
-    ),
-    (file!(16, 0; 1, 0, 1, 0x61616161), 0, MAGIC, at!(Short, 64)),
+    blob!(16, 0, [1, A, 2, 9], at!(BadName, 56)),
+    blob!(28, 0, [1, 0, 1, 0, 2, 2, 9], at!(BadName, 64)),
+    blob!(28, 0, [1, 0, 1, 0x2f000000, 2, 2, 9], at!(BadName, 64)),
+    blob!(40, 0, [1, 0, 1, A, 2, 1, A, 2, 2, 9], at!(BadName, 76)),
+    blob!(52, 0, [1, 0, 1, A, 1, A, 2, 2, 1, B, 2, 2, 9], None),
+    blob!(16, 0, [1, 0, 1, 0x61616161], at!(Short, 64)),
     // properties: values of 0 and 5 bytes, one in no node, one behind a child, a value that is cut
-    (
-        file!(28, 2; 1, 0, 3, 0, 0, 2, 9, 0x61000000),
-        0,
-        MAGIC,
-        None,
+    blob!(28, 2, [1, 0, 3, 0, 0, 2, 9, 0x61000000], None),
+    blob!(36, 2, [1, 0, 3, 5, 0, 1, 2, 2, 9, 0x61000000], None),
+    blob!(
+        28,
+        2,
+        [3, 0, 0, 1, 0, 2, 9, 0x61000000],
+        at!(Unbalanced, 56)
     ),
-    (
-        file!(36, 2; 1, 0, 3, 5, 0, 1, 2, 2, 9, 0x61000000),
-        0,
-        MAGIC,
-        None,
+    blob!(
+        40,
+        2,
+        [1, 0, 1, A, 2, 3, 0, 0, 2, 9, 0x61000000],
+        at!(BadToken, 76)
     ),
-    (
-        file!(28, 2; 3, 0, 0, 1, 0, 2, 9, 0x61000000),
-        0,
-        MAGIC,
-        at!(Unbalanced, 56),
-    ),
-    (
-        file!(40, 2; 1, 0, 1, A, 2, 3, 0, 0, 2, 9, 0x61000000),
-        0,
-        MAGIC,
-        at!(BadToken, 76),
-    ),
-    (
-        file!(28, 2; 1, 0, 3, 9, 0, 2, 9, 0x61000000),
-        0,
-        MAGIC,
-        at!(Short, 64),
-    ),
+    blob!(28, 2, [1, 0, 3, 9, 0, 2, 9, 0x61000000], at!(Short, 64)),
     // names of properties: at the strings' end, past it, cut, empty, twins, twins in two nodes
-    (
-        file!(28, 5; 1, 0, 3, 0, 3, 2, 9, 0x61620063, 0),
-        0,
-        MAGIC,
-        None,
+    blob!(28, 5, [1, 0, 3, 0, 3, 2, 9, 0x61620063, 0], None),
+    blob!(28, 2, [1, 0, 3, 0, 2, 2, 9, 0x61000000], at!(BadOffset, 64)),
+    blob!(28, 1, [1, 0, 3, 0, 0, 2, 9, 0x61000000], at!(BadOffset, 64)),
+    blob!(28, 2, [1, 0, 3, 0, 1, 2, 9, 0x61000000], at!(BadName, 64)),
+    blob!(
+        40,
+        2,
+        [1, 0, 3, 0, 0, 3, 0, 0, 2, 9, 0x61000000],
+        at!(BadName, 76)
     ),
-    (
-        file!(28, 2; 1, 0, 3, 0, 2, 2, 9, 0x61000000),
-        0,
-        MAGIC,
-        at!(BadOffset, 64),
-    ),
-    (
-        file!(28, 1; 1, 0, 3, 0, 0, 2, 9, 0x61000000),
-        0,
-        MAGIC,
-        at!(BadOffset, 64),
-    ),
-    (
-        file!(28, 2; 1, 0, 3, 0, 1, 2, 9, 0x61000000),
-        0,
-        MAGIC,
-        at!(BadName, 64),
-    ),
-    (
-        file!(40, 2; 1, 0, 3, 0, 0, 3, 0, 0, 2, 9, 0x61000000),
-        0,
-        MAGIC,
-        at!(BadName, 76),
-    ),
-    (
-        file!(52, 2; 1, 0, 3, 0, 0, 1, A, 3, 0, 0, 2, 2, 9, 0x61000000),
-        0,
-        MAGIC,
-        None,
+    blob!(
+        52,
+        2,
+        [1, 0, 3, 0, 0, 1, A, 3, 0, 0, 2, 2, 9, 0x61000000],
+        None
     ),
     // 16 nodes in one another, and 17
-    (
-        file!(196, 0; 1, 0, 1, A, 1, A, 1, A, 1, A, 1, A, 1, A, 1, A, 1, A, 1, A, 1, A, 1, A, 1, A, 1, A, 1, A, 1, A, 2, 2, 2, 2, 2, 2, 2, 2, 2, 2, 2, 2, 2, 2, 2, 2, 9),
+    blob!(
+        196,
         0,
-        MAGIC,
-        None,
+        [
+            1, 0, 1, A, 1, A, 1, A, 1, A, 1, A, 1, A, 1, A, 1, A, 1, A, 1, A, 1, A, 1, A, 1, A, 1,
+            A, 1, A, 2, 2, 2, 2, 2, 2, 2, 2, 2, 2, 2, 2, 2, 2, 2, 2, 9
+        ],
+        None
     ),
-    (
-        file!(136, 0; 1, 0, 1, A, 1, A, 1, A, 1, A, 1, A, 1, A, 1, A, 1, A, 1, A, 1, A, 1, A, 1, A, 1, A, 1, A, 1, A, 1, A),
+    blob!(
+        136,
         0,
-        MAGIC,
-        at!(TooDeep, 184),
+        [
+            1, 0, 1, A, 1, A, 1, A, 1, A, 1, A, 1, A, 1, A, 1, A, 1, A, 1, A, 1, A, 1, A, 1, A, 1,
+            A, 1, A, 1, A
+        ],
+        at!(TooDeep, 184)
     ),
     // a word of the least tree's header in another's place
     (&LEAST, 0, 0xd00dfeee, at!(BadMagic, 0)),
