@@ -209,12 +209,26 @@ fn least_tree_cut_anywhere(rt: HostRuntime) {
     assert_eq!(rt; fault_of(rt.alloc(), &whole, 73), None);
 }
 
+// Byte by byte, since a proof about `==` of slices takes longer.
+fn is_same(a: &[u8], b: &[u8]) -> bool {
+    if a.len() != b.len() {
+        return false;
+    }
+    for at in 0..a.len() {
+        if a[at] != b[at] {
+            return false;
+        }
+    }
+    true
+}
+
 fn has_props(props: &[Prop], rows: Props) -> bool {
     if props.len() != rows.len() {
         return false;
     }
     for (prop, (name, value)) in props.iter().zip(rows) {
-        if prop.name.bytes() != name.as_bytes() || prop.value.as_slice() != *value {
+        let is_named = NodeName::of(name.as_bytes()) == Some(prop.name);
+        if !is_named || !is_same(&prop.value, value) {
             return false;
         }
     }
