@@ -1,4 +1,6 @@
 //! What an access to a device is, and what it comes to.
+ghost use Rattle.std.specs.Prelude.{◌↔◌, IsTrue};
+ghost use Rattle.xv_bus.specs.Access.{Fits};
 
 /// How many bytes an access has: 1, 2, 4 or 8.
 #[derive(Clone, Copy, Debug, PartialEq, Eq)]
@@ -14,6 +16,21 @@ pub enum Width {
 pub enum Access {
     Load(Width),
     Store(Width, u64),
+}
+
+impl Access {
+    /// Whether what is stored has no more bytes than the access, as a device wants it.
+    pub fn fits(self) -> bool
+        ensures { IsTrue result ↔ Fits self }
+    {
+        match self {
+            Access::Load(_) => true,
+            Access::Store(Width::W1, value) => value < 1 << 8,
+            Access::Store(Width::W2, value) => value < 1 << 16,
+            Access::Store(Width::W4, value) => value < 1 << 32,
+            Access::Store(Width::W8, _) => true,
+        }
+    }
 }
 
 /// Why a guest has halted: by a command, by its finisher, or by a call to shut down.

@@ -9,7 +9,7 @@ mod registers;
 
 pub use access::{Access, Ending, Outcome, Width};
 pub use device::Device;
-pub use memory::GuestMem;
+pub use memory::{GuestMem, NoMem};
 pub use registers::{Half, Modem, PlicRegister, UartRegister};
 
 #[cfg(test)]

@@ -30,3 +30,27 @@ pub trait GuestMem {
         ensures cells { flat self.new ≡ after_store (flat self.old) gpa bytes.now }
         ensures rest { rest self.new ≡ rest self.old };
 }
+
+/// The memory of a guest that has none: no access finds its bytes.
+#[derive(Drop)]
+pub struct NoMem;
+
+impl GuestMem for NoMem {
+    ghost use Rattle.std.specs.Prelude.{None, []};
+
+    ghost flat = { λ mem. record { find = λ gpa len. None; cells = [] } };
+
+    ghost Rest = { Unit {0} };
+
+    ghost rest = { λ mem. tt };
+
+    #[tactic(auto, unfolding(crate::specs::Memory::bytes_at))]
+    fn load(&mut self, _gpa: u64, _buf: &mut [u8]) -> bool {
+        false
+    }
+
+    #[tactic(auto, unfolding(crate::specs::Memory::stored))]
+    fn store(&mut self, _gpa: u64, _bytes: &[u8]) -> bool {
+        false
+    }
+}

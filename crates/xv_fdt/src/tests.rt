@@ -1,267 +1,252 @@
-ghost use Rattle.std.specs.Prelude.{◌<◌};
+//! Files of each kind of fault, the least tree cut at each byte, and the blob of a real tree.
+ghost use Rattle.std.specs.Prelude.{◌≤◌};
 
 mod payload;
 
 use super::*;
+use byteorder::{BigEndian, ByteOrder};
 use payload::{BLOB, NODES, Props};
-use std::alloc::{AllocError, Global};
+use std::alloc::Global;
 use std::process::Abort;
 use std::test::Fail;
 
-/// The structure of the least tree: the root, without a name.
-const LEAST: [u32; 4] = [1, 0, 2, 9];
+/// The fault of a kind at an offset.
+macro_rules! at {
+    ($kind:ident, $offset:literal) => {
+        Some(FdtFault::At {
+            kind: FdtKind::$kind,
+            offset: $offset,
+        })
+    };
+}
 
-/// The length of the least tree, in bytes.
-const LEAST_LEN: usize = 72;
+/// A row of a file, and its fault: the header as dtc lays it out, of a structure and strings of so
+/// many bytes; the reservations' end; the structure, and then the strings.
+macro_rules! blob {
+    ($size:literal, $strings_size:literal, [$($word:expr),*], $fault:expr) => {
+        (
+            &[
+                MAGIC, 56 + $size + $strings_size, 56, 56 + $size, 40, 17, 16, 0, $strings_size,
+                $size, 0, 0, 0, 0, $($word),*
+            ],
+            0,
+            MAGIC,
+            $fault,
+        )
+    };
+}
+
+/// The first word of a file (5.2).
+const MAGIC: u32 = 0xd00dfeed;
 
 /// The word that is the name of one letter, and the 0 and the padding behind it.
 const A: u32 = 0x61000000;
 
 const B: u32 = 0x62000000;
 
-fn put_words(out: &mut Vec<u8>, words: &[u32]) -> Result<(), AllocError> {
-    for word in words {
-        out.extend_from_slice(&word.to_be_bytes())?;
-    }
-    Ok(())
-}
+/// The most words of a file below.
+const MOST: usize = 64;
 
-/// A file with this structure and these strings, its header as dtc lays it out.
-fn file(alloc: Global, structure: &[u32], strings: &[u8]) -> Result<Vec<u8>, AllocError> {
-    let size = structure.len().saturating_mul(4).min(1 << 20) as u32;
-    let strings_size = strings.len().min(1 << 20) as u32;
-    let mut out = Vec::new(alloc);
-    put_words(
-        &mut out,
-        &[0xd00dfeed, 56 + size + strings_size, 56, 56 + size, 40],
-    )?;
-    put_words(&mut out, &[17, 16, 0, strings_size, size, 0, 0, 0, 0])?;
-    put_words(&mut out, structure)?;
-    out.extend_from_slice(strings)?;
-    Ok(out)
-}
+/// The file of the least tree: a root without a name.
+const LEAST: [u32; 18] = [
+    MAGIC, 72, 56, 72, 40, 17, 16, 0, 0, 16, 0, 0, 0, 0, 1, 0, 2, 9,
+];
 
-/// The kind and the offset of the fault, or None where a tree was read.
-fn fault_of(alloc: Global, bytes: &[u8]) -> Result<Gives, &'static str> {
-    match read(alloc, bytes) {
-        Ok(_) => Ok(None),
-        Err(FdtFault::At { kind, offset }) => Ok(Some((kind, offset))),
-        Err(FdtFault::NoMemory) => Err("memory"),
-    }
-}
+/// A file, a word's number and the word that is put there, and the fault.
+type Row = (&'static [u32], usize, u32, Option<FdtFault>);
 
-/// The kind and the offset of a fault, or None where a tree is read.
-type Gives = Option<(FdtKind, u32)>;
-
-/// A structure, its strings, and what they give.
-type Row = (&'static [u32], &'static [u8], Gives);
-
-const STRUCTURES: [Row; 33] = [
-    (&LEAST, b"", None),
+const FILES: [Row; 55] = [
+    (&LEAST, 0, MAGIC, None),
     // another token in the place of each
-    (&[9, 0, 2, 9], b"", Some((FdtKind::Unbalanced, 56))),
-    (&[2, 0, 2, 9], b"", Some((FdtKind::Unbalanced, 56))),
-    (&[5, 0, 2, 9], b"", Some((FdtKind::BadToken, 56))),
-    (&[1, 0, 9, 9], b"", Some((FdtKind::Unbalanced, 64))),
-    (&[1, 0, 4, 9], b"", Some((FdtKind::Unbalanced, 68))),
-    (&[1, 0, 5, 9], b"", Some((FdtKind::BadToken, 64))),
-    (&[1, 0, 3, 100], b"", Some((FdtKind::Short, 64))),
-    (&[1, 0, 2, 1], b"", Some((FdtKind::Unbalanced, 68))),
-    (&[1, 0, 2, 2], b"", Some((FdtKind::Unbalanced, 68))),
-    (&[1, 0, 2, 3], b"", Some((FdtKind::Unbalanced, 68))),
-    (&[1, 0, 2, 7], b"", Some((FdtKind::BadToken, 68))),
+    blob!(16, 0, [9, 0, 2, 9], at!(Unbalanced, 56)),
+    blob!(16, 0, [2, 0, 2, 9], at!(Unbalanced, 56)),
+    blob!(16, 0, [5, 0, 2, 9], at!(BadToken, 56)),
+    blob!(16, 0, [1, 0, 9, 9], at!(Unbalanced, 64)),
+    blob!(16, 0, [1, 0, 4, 9], at!(Unbalanced, 68)),
+    blob!(16, 0, [1, 0, 5, 9], at!(BadToken, 64)),
+    blob!(16, 0, [1, 0, 3, 100], at!(Short, 64)),
+    blob!(16, 0, [1, 0, 2, 1], at!(Unbalanced, 68)),
+    blob!(16, 0, [1, 0, 2, 2], at!(Unbalanced, 68)),
+    blob!(16, 0, [1, 0, 2, 3], at!(Unbalanced, 68)),
+    blob!(16, 0, [1, 0, 2, 7], at!(BadToken, 68)),
     // no-operations, and what follows the end
-    (&[4, 1, 0, 2, 9], b"", None),
-    (&[4, 4, 1, 0, 4, 2, 4, 9, 77], b"", None),
+    blob!(20, 0, [4, 1, 0, 2, 9], None),
+    blob!(36, 0, [4, 4, 1, 0, 4, 2, 4, 9, 77], None),
     // nodes: a name of the root, none of a child, one with a `/`, twins, and a twin in another node
-    (&[1, A, 2, 9], b"", Some((FdtKind::BadName, 56))),
-    (&[1, 0, 1, 0, 2, 2, 9], b"", Some((FdtKind::BadName, 64))),
-    (
-        &[1, 0, 1, 0x2f000000, 2, 2, 9],
-        b"",
-        Some((FdtKind::BadName, 64)),
-    ),
-    (
-        &[1, 0, 1, A, 2, 1, A, 2, 2, 9],
-        b"",
-        Some((FdtKind::BadName, 76)),
-    ),
-    (&[1, 0, 1, A, 1, A, 2, 2, 1, B, 2, 2, 9], b"", None),
-    (&[1, 0, 1, 0x61616161], b"", Some((FdtKind::Short, 64))),
+    blob!(16, 0, [1, A, 2, 9], at!(BadName, 56)),
+    blob!(28, 0, [1, 0, 1, 0, 2, 2, 9], at!(BadName, 64)),
+    blob!(28, 0, [1, 0, 1, 0x2f000000, 2, 2, 9], at!(BadName, 64)),
+    blob!(40, 0, [1, 0, 1, A, 2, 1, A, 2, 2, 9], at!(BadName, 76)),
+    blob!(52, 0, [1, 0, 1, A, 1, A, 2, 2, 1, B, 2, 2, 9], None),
+    blob!(16, 0, [1, 0, 1, 0x61616161], at!(Short, 64)),
     // properties: values of 0 and 5 bytes, one in no node, one behind a child, a value that is cut
-    (&[1, 0, 3, 0, 0, 2, 9], b"a\0", None),
-    (&[1, 0, 3, 5, 0, 1, 2, 2, 9], b"a\0", None),
-    (
-        &[3, 0, 0, 1, 0, 2, 9],
-        b"a\0",
-        Some((FdtKind::Unbalanced, 56)),
+    blob!(28, 2, [1, 0, 3, 0, 0, 2, 9, 0x61000000], None),
+    blob!(36, 2, [1, 0, 3, 5, 0, 1, 2, 2, 9, 0x61000000], None),
+    blob!(
+        28,
+        2,
+        [3, 0, 0, 1, 0, 2, 9, 0x61000000],
+        at!(Unbalanced, 56)
     ),
-    (
-        &[1, 0, 1, A, 2, 3, 0, 0, 2, 9],
-        b"a\0",
-        Some((FdtKind::BadToken, 76)),
+    blob!(
+        40,
+        2,
+        [1, 0, 1, A, 2, 3, 0, 0, 2, 9, 0x61000000],
+        at!(BadToken, 76)
     ),
-    (&[1, 0, 3, 9, 0, 2, 9], b"a\0", Some((FdtKind::Short, 64))),
+    blob!(28, 2, [1, 0, 3, 9, 0, 2, 9, 0x61000000], at!(Short, 64)),
     // names of properties: at the strings' end, past it, cut, empty, twins, twins in two nodes
-    (&[1, 0, 3, 0, 3, 2, 9], b"ab\0c\0", None),
-    (
-        &[1, 0, 3, 0, 2, 2, 9],
-        b"a\0",
-        Some((FdtKind::BadOffset, 64)),
+    blob!(28, 5, [1, 0, 3, 0, 3, 2, 9, 0x61620063, 0], None),
+    blob!(28, 2, [1, 0, 3, 0, 2, 2, 9, 0x61000000], at!(BadOffset, 64)),
+    blob!(28, 1, [1, 0, 3, 0, 0, 2, 9, 0x61000000], at!(BadOffset, 64)),
+    blob!(28, 2, [1, 0, 3, 0, 1, 2, 9, 0x61000000], at!(BadName, 64)),
+    blob!(
+        40,
+        2,
+        [1, 0, 3, 0, 0, 3, 0, 0, 2, 9, 0x61000000],
+        at!(BadName, 76)
     ),
-    (&[1, 0, 3, 0, 0, 2, 9], b"a", Some((FdtKind::BadOffset, 64))),
-    (&[1, 0, 3, 0, 1, 2, 9], b"a\0", Some((FdtKind::BadName, 64))),
-    (
-        &[1, 0, 3, 0, 0, 3, 0, 0, 2, 9],
-        b"a\0",
-        Some((FdtKind::BadName, 76)),
+    blob!(
+        52,
+        2,
+        [1, 0, 3, 0, 0, 1, A, 3, 0, 0, 2, 2, 9, 0x61000000],
+        None
     ),
-    (&[1, 0, 3, 0, 0, 1, A, 3, 0, 0, 2, 2, 9], b"a\0", None),
     // 16 nodes in one another, and 17
-    (&DEEPEST, b"", None),
-    (&TOO_DEEP, b"", Some((FdtKind::TooDeep, 184))),
+    blob!(
+        196,
+        0,
+        [
+            1, 0, 1, A, 1, A, 1, A, 1, A, 1, A, 1, A, 1, A, 1, A, 1, A, 1, A, 1, A, 1, A, 1, A, 1,
+            A, 1, A, 2, 2, 2, 2, 2, 2, 2, 2, 2, 2, 2, 2, 2, 2, 2, 2, 9
+        ],
+        None
+    ),
+    blob!(
+        136,
+        0,
+        [
+            1, 0, 1, A, 1, A, 1, A, 1, A, 1, A, 1, A, 1, A, 1, A, 1, A, 1, A, 1, A, 1, A, 1, A, 1,
+            A, 1, A, 1, A
+        ],
+        at!(TooDeep, 184)
+    ),
+    // a word of the least tree's header in another's place
+    (&LEAST, 0, 0xd00dfeee, at!(BadMagic, 0)),
+    (&LEAST, 1, 73, at!(Short, 4)),
+    (&LEAST, 2, 60, at!(BadOffset, 8)),
+    (&LEAST, 2, 54, at!(BadOffset, 8)),
+    (&LEAST, 2, 36, at!(BadOffset, 8)),
+    (&LEAST, 3, 73, at!(BadOffset, 12)),
+    (&LEAST, 4, 44, at!(BadOffset, 16)),
+    (&LEAST, 4, 48, at!(BadOffset, 16)),
+    (&LEAST, 4, 64, at!(BadOffset, 16)),
+    (&LEAST, 4, 80, at!(BadOffset, 16)),
+    (&LEAST, 4, 0xfffffff8, at!(BadOffset, 16)),
+    (&LEAST, 5, 16, at!(BadVersion, 20)),
+    (&LEAST, 5, 18, None),
+    (&LEAST, 6, 17, None),
+    (&LEAST, 6, 18, at!(BadVersion, 24)),
+    (&LEAST, 7, 5, None),
+    (&LEAST, 8, 1, at!(BadOffset, 12)),
+    (&LEAST, 9, 14, at!(BadOffset, 36)),
+    (&LEAST, 9, 12, at!(Short, 68)),
+    (&LEAST, 9, 8, at!(Short, 64)),
+    (&LEAST, 9, 4, at!(Short, 56)),
+    (&LEAST, 9, 0, at!(Short, 56)),
 ];
 
-const DEEPEST: [u32; 49] = [
-    1, 0, 1, A, 1, A, 1, A, 1, A, 1, A, 1, A, 1, A, 1, A, 1, A, 1, A, 1, A, 1, A, 1, A, 1, A, 1, A,
-    2, 2, 2, 2, 2, 2, 2, 2, 2, 2, 2, 2, 2, 2, 2, 2, 9,
-];
-
-/// The beginnings of 17 nodes.
-const TOO_DEEP: [u32; 34] = [
-    1, 0, 1, A, 1, A, 1, A, 1, A, 1, A, 1, A, 1, A, 1, A, 1, A, 1, A, 1, A, 1, A, 1, A, 1, A, 1, A,
-    1, A,
-];
-
-/// The file of the least tree, as words.
-const LEAST_FILE: [u32; 18] = [
-    0xd00dfeed, 72, 56, 72, 40, 17, 16, 0, 0, 16, 0, 0, 0, 0, 1, 0, 2, 9,
-];
-
-/// A word of the least tree's header in another's place: where it stands, the word, and the fault.
-const WORDS: [(usize, u32, Gives); 22] = [
-    (0, 0xd00dfeee, Some((FdtKind::BadMagic, 0))),
-    (4, 73, Some((FdtKind::Short, 4))),
-    (8, 60, Some((FdtKind::BadOffset, 8))),
-    (8, 54, Some((FdtKind::BadOffset, 8))),
-    (8, 36, Some((FdtKind::BadOffset, 8))),
-    (12, 73, Some((FdtKind::BadOffset, 12))),
-    (16, 44, Some((FdtKind::BadOffset, 16))),
-    (16, 48, Some((FdtKind::BadOffset, 16))),
-    (16, 64, Some((FdtKind::BadOffset, 16))),
-    (16, 80, Some((FdtKind::BadOffset, 16))),
-    (16, 0xfffffff8, Some((FdtKind::BadOffset, 16))),
-    (20, 16, Some((FdtKind::BadVersion, 20))),
-    (20, 18, None),
-    (24, 17, None),
-    (24, 18, Some((FdtKind::BadVersion, 24))),
-    (28, 5, None),
-    (32, 1, Some((FdtKind::BadOffset, 12))),
-    (36, 14, Some((FdtKind::BadOffset, 36))),
-    (36, 12, Some((FdtKind::Short, 68))),
-    (36, 8, Some((FdtKind::Short, 64))),
-    (36, 4, Some((FdtKind::Short, 56))),
-    (36, 0, Some((FdtKind::Short, 56))),
-];
-
-fn check_structures(rt: &impl Abort, alloc: Global, rows: &[Row]) -> Result<(), Fail> {
-    for (structure, strings, gives) in rows {
-        let bytes = file(alloc, structure, strings)?;
-        assert_eq!(rt; fault_of(alloc, &bytes)?, *gives, "{structure:?}");
-    }
-    Ok(())
-}
-
-fn check_words(rt: &impl Abort, alloc: Global, rows: &[(usize, u32, Gives)]) -> Result<(), Fail> {
-    for (at, word, gives) in rows {
-        let number = *at / 4;
-        assert!(rt; number < 18);
-        let mut words = LEAST_FILE;
-        words[number] = *word;
-        let mut bytes = Vec::new(alloc);
-        put_words(&mut bytes, &words)?;
-        assert_eq!(rt; fault_of(alloc, &bytes)?, *gives, "{at} {word}");
-    }
-    Ok(())
-}
-
-#[test]
-fn rows_of_structures_and_headers(rt: HostRuntime) -> Result<(), Fail> {
-    check_structures(&rt, rt.alloc(), &STRUCTURES)?;
-    check_words(&rt, rt.alloc(), &WORDS)
-}
-
-/// The faults of the first `len` bytes of the least tree, of the whole with that totalsize, and of
-/// both.
-fn check_cut(rt: &impl Abort, alloc: Global, len: usize) -> Result<(), Fail>
-    requires { len < LEAST_LEN }
+/// The fault of the first `len` bytes of the file of these words, behind which 0 stands.
+fn fault_of(alloc: Global, words: &[u32; MOST], len: usize) -> Option<FdtFault>
+    requires { len ≤ 256 }
 {
-    let (cut, low) = if len < 40 {
-        ((FdtKind::Short, len as u32), (FdtKind::Short, 4))
-    } else {
-        ((FdtKind::Short, 4), (FdtKind::BadOffset, 8))
-    };
-    let whole = file(alloc, &LEAST, b"")?;
-    assert_eq!(rt; whole.len(), LEAST_LEN);
-    assert_eq!(rt; fault_of(alloc, &whole[..len])?, Some(cut), "{len}");
+    let mut bytes = [0; 4 * MOST];
+    BigEndian::write_u32_into(words, &mut bytes);
+    read(alloc, &bytes[..len]).err()
+}
 
-    let mut lowered = whole;
-    lowered[4..8].copy_from_slice(&(len as u32).to_be_bytes());
-    assert_eq!(rt; fault_of(alloc, &lowered)?, Some(low), "{len}");
-    let both = if len < 40 { cut } else { low };
-    assert_eq!(rt; fault_of(alloc, &lowered[..len])?, Some(both), "{len}");
-    Ok(())
+// The rows are a parameter: a proof that sees the words of all of them takes far longer.
+fn check_files(rt: &impl Abort, alloc: Global, rows: &[Row]) {
+    for (words, place, word, fault) in rows {
+        assert!(rt; words.len() <= MOST && *place < MOST);
+        let mut file = [0; MOST];
+        file[..words.len()].copy_from_slice(words);
+        file[*place] = *word;
+        let found = fault_of(alloc, &file, 4 * words.len());
+        assert_eq!(rt; found, *fault, "{words:?} {place} {word}");
+    }
 }
 
 #[test]
-fn least_tree_cut_anywhere(rt: HostRuntime) -> Result<(), Fail> {
-    for len in 0..LEAST_LEN {
-        check_cut(&rt, rt.alloc(), len)?;
-    }
-    let mut longer = file(rt.alloc(), &LEAST, b"")?;
-    longer.push(7)?;
-    assert_eq!(rt; fault_of(rt.alloc(), &longer)?, None);
-    Ok(())
+fn structures_and_headers(rt: HostRuntime) {
+    check_files(&rt, rt.alloc(), &FILES);
 }
 
-/// The length of a name, and whether it is one.
-const NAMES: [(usize, bool); 4] = [(0, true), (1, true), (63, true), (64, false)];
-
+// The first `len` bytes of the least tree, the whole with that totalsize, and both.
 #[test]
-fn limits_of_length_and_names(rt: HostRuntime) -> Result<(), Fail> {
-    let long = vec![in rt.alloc(); 0; 1_048_577]?;
-    assert_eq!(rt; fault_of(rt.alloc(), &long)?, Some((FdtKind::TooBig, 0)));
-
-    let letters = [b'a'; 64];
-    for (len, is_name) in NAMES {
-        assert!(rt; len <= 64);
-        let given = NodeName::of(&letters[..len]).is_some();
-        assert_eq!(rt; given, is_name, "{len}");
+fn least_tree_cut_anywhere(rt: HostRuntime) {
+    let mut whole = [0; MOST];
+    whole[..18].copy_from_slice(&LEAST);
+    for len in 0..72 {
+        let mut lowered = whole;
+        lowered[1] = len as u32;
+        let found = (
+            fault_of(rt.alloc(), &whole, len),
+            fault_of(rt.alloc(), &lowered, 72),
+            fault_of(rt.alloc(), &lowered, len),
+        );
+        let wanted = if len < 40 {
+            let cut = Some(FdtFault::At {
+                kind: FdtKind::Short,
+                offset: len as u32,
+            });
+            (cut, at!(Short, 4), cut)
+        } else {
+            (at!(Short, 4), at!(BadOffset, 8), at!(BadOffset, 8))
+        };
+        assert_eq!(rt; found, wanted, "{len}");
     }
-    Ok(())
+    assert_eq!(rt; fault_of(rt.alloc(), &whole, 73), None);
 }
 
-fn same(a: &[u8], b: &[u8]) -> bool {
-    a == b
+// Byte by byte, since a proof about `==` of slices takes longer.
+fn is_same(a: &[u8], b: &[u8]) -> bool {
+    if a.len() != b.len() {
+        return false;
+    }
+    for at in 0..a.len() {
+        if a[at] != b[at] {
+            return false;
+        }
+    }
+    true
 }
 
-/// That these are the properties of a node.
-fn assert_props(rt: &impl Abort, props: &[Prop], rows: &[(&str, &[u8])]) {
-    assert_eq!(rt; props.len(), rows.len());
+fn has_props(props: &[Prop], rows: Props) -> bool {
+    if props.len() != rows.len() {
+        return false;
+    }
     for (prop, (name, value)) in props.iter().zip(rows) {
-        assert!(rt; same(prop.name.bytes(), name.as_bytes()), "{name}");
-        assert!(rt; same(&prop.value, value), "{name}");
+        let is_named = NodeName::of(name.as_bytes()) == Some(prop.name);
+        if !is_named || !is_same(&prop.value, value) {
+            return false;
+        }
     }
+    true
 }
 
-/// That these are the nodes of a tree.
-fn assert_nodes(rt: &impl Abort, tree: &Tree, rows: &[(&str, u32, u8, Props)]) {
-    assert_eq!(rt; tree.nodes.len(), rows.len());
-    for (node, (name, parent, depth, props)) in tree.nodes.iter().zip(rows) {
-        assert!(rt; same(node.name.bytes(), name.as_bytes()), "{name}");
-        assert_eq!(rt; (node.parent, node.depth), (*parent, *depth), "{name}");
-        assert_props(rt, &node.props, props);
+fn has_nodes(nodes: &[Node], rows: &[(&str, u32, u8, Props)]) -> bool {
+    if nodes.len() != rows.len() {
+        return false;
     }
+    for (node, (name, parent, depth, props)) in nodes.iter().zip(rows) {
+        let is_there = node.parent == *parent && node.depth == *depth;
+        let is_named = NodeName::of(name.as_bytes()) == Some(node.name);
+        if !is_there || !is_named || !has_props(&node.props, props) {
+            return false;
+        }
+    }
+    true
 }
 
 #[test]
@@ -269,13 +254,13 @@ fn realistic_tree_read_and_written(rt: HostRuntime) -> Result<(), Fail> {
     let Ok(tree) = read(rt.alloc(), BLOB) else {
         return Err(Fail::from("the blob of dtc"));
     };
-    assert_nodes(&rt, &tree, &NODES);
+    assert!(rt; has_nodes(&tree.nodes, &NODES));
     let Ok(bytes) = write(rt.alloc(), &tree) else {
         return Err(Fail::from("memory"));
     };
     let Ok(again) = read(rt.alloc(), &bytes) else {
         return Err(Fail::from("the written file"));
     };
-    assert_nodes(&rt, &again, &NODES);
+    assert!(rt; has_nodes(&again.nodes, &NODES));
     Ok(())
 }

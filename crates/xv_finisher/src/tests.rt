@@ -1,45 +1,8 @@
 //! Each width, offset and word.
-ghost use Rattle.std.specs.Prelude.{IsTrue};
-ghost use Rattle.xv_bus.specs.Access.{Fits};
 
 use super::*;
 use std::test::Fail;
-
-/// A guest with no memory.
-#[derive(Drop)]
-struct NoMem;
-
-impl GuestMem for NoMem {
-    ghost use Rattle.std.specs.Prelude.{None, []};
-
-    ghost flat = { λ mem. record { find = λ gpa len. None; cells = [] } };
-
-    ghost Rest = { Unit {0} };
-
-    ghost rest = { λ mem. tt };
-
-    #[tactic(auto, unfolding(xv_bus::specs::Memory::bytes_at))]
-    fn load(&mut self, _gpa: u64, _buf: &mut [u8]) -> bool {
-        false
-    }
-
-    #[tactic(auto, unfolding(xv_bus::specs::Memory::stored))]
-    fn store(&mut self, _gpa: u64, _bytes: &[u8]) -> bool {
-        false
-    }
-}
-
-fn fits(access: Access) -> bool
-    ensures { IsTrue result → Fits access }
-{
-    match access {
-        Access::Load(_) => true,
-        Access::Store(Width::W1, value) => value < 1 << 8,
-        Access::Store(Width::W2, value) => value < 1 << 16,
-        Access::Store(Width::W4, value) => value < 1 << 32,
-        Access::Store(Width::W8, _) => true,
-    }
-}
+use xv_bus::NoMem;
 
 // an offset, an access, and what it comes to
 const ROWS: [(u64, Access, Outcome); 17] = [
@@ -82,7 +45,7 @@ const ROWS: [(u64, Access, Outcome); 17] = [
 fn accesses(rt: HostRuntime) -> Result<(), Fail> {
     let mut finisher = Finisher::new();
     for (at, access, outcome) in ROWS {
-        assert!(rt; fits(access));
+        assert!(rt; access.fits());
         assert_eq!(rt;
             finisher.access(at, access, &mut NoMem),
             outcome,

@@ -1,36 +1,11 @@
 //! Worked rows, every register, widths, and contexts that aren't there.
-ghost use Rattle.std.specs.Prelude.{◌≡◌, ◌≤◌, false, IsTrue};
+ghost use Rattle.std.specs.Prelude.{◌≡◌, ◌≤◌, false};
 ghost use Rattle.xv_base.specs.Bits.{has_bit};
-ghost use Rattle.xv_bus.specs.Access.{Fits};
 
 use super::*;
 use std::process::Abort;
 use std::test::Fail;
-use xv_bus::{Access, Device, GuestMem, Outcome, Width};
-
-/// A guest with no memory.
-#[derive(Drop)]
-struct NoMem;
-
-impl GuestMem for NoMem {
-    ghost use Rattle.std.specs.Prelude.{None, []};
-
-    ghost flat = { λ mem. record { find = λ gpa len. None; cells = [] } };
-
-    ghost Rest = { Unit {0} };
-
-    ghost rest = { λ mem. tt };
-
-    #[tactic(auto, unfolding(xv_bus::specs::Memory::bytes_at))]
-    fn load(&mut self, _gpa: u64, _buf: &mut [u8]) -> bool {
-        false
-    }
-
-    #[tactic(auto, unfolding(xv_bus::specs::Memory::stored))]
-    fn store(&mut self, _gpa: u64, _bytes: &[u8]) -> bool {
-        false
-    }
-}
+use xv_bus::{Access, Device, NoMem, Outcome, Width};
 
 /// What is done to a controller, and what is seen of it.
 #[derive(Clone, Copy)]
@@ -186,21 +161,12 @@ const REFUSED: [(u64, Access); 9] = [
     (0x20_0002, Access::Load(Width::W4)),
 ];
 
-fn is_small(access: Access) -> bool
-    ensures { IsTrue result → Fits access }
-{
-    match access {
-        Access::Load(_) => true,
-        Access::Store(_, value) => value < 8,
-    }
-}
-
 #[test]
 fn registers(rt: HostRuntime) {
     let mut plic = Plic::new(8);
     let fresh = plic.state();
     for (at, access) in REFUSED {
-        assert!(rt; is_small(access));
+        assert!(rt; access.fits());
         assert_eq!(rt;
             plic.access(at, access, &mut NoMem),
             Outcome::Refused,

@@ -16,7 +16,7 @@ use Rattle.xv_script.specs.Script.{line_of, with_number, commands_from}
 use Rattle.xv_script.specs.Text.{lines, words}
 
 -- what a line gives, and what lines give
-abbrev OfLine : Type 0
+abbrev pub OfLine : Type 0
 OfLine = Result (Option Command) ScriptKind
 
 abbrev OfLines : Type 0
@@ -112,7 +112,7 @@ with_bytes [] = 0
 with_bytes ([] ∷ pieces) = with_bytes pieces
 with_bytes ((byte ∷ piece) ∷ pieces) = with_bytes pieces + 1
 
-joined : (number : ℕ) (read : OfLine) (others : OfLines) (all : List Line)
+pub joined : (number : ℕ) (read : OfLine) (others : OfLines) (all : List Line)
     → both_of number read others ≡ Ok all
     → (here : Option Command) × (behind : List Line)
     × (read ≡ Ok here) × (others ≡ Ok behind) × (with_number number here ++ behind ≡ all)

@@ -2,14 +2,14 @@
 use xv_base::{Bytes, DevName, FileName, GuestName};
 
 /// A command, and the number of its line, which is counted from 1.
-#[derive(Debug, Drop)]
+#[derive(Drop)]
 pub struct Line {
     pub number: u32,
     pub command: Command,
 }
 
 /// What one line of a script asks for. Numbers keep the ranges of the script's grammar.
-#[derive(Debug, Drop)]
+#[derive(Drop)]
 pub enum Command {
     /// `guest create N FILE`: a guest, from a tree in a file.
     Create(GuestName, FileName),

@@ -37,7 +37,7 @@ pub enum ScriptFault {
 }
 
 /// Why a line gives no command.
-#[derive(Clone, Copy, Debug, PartialEq, Eq)]
+#[derive(Clone, Copy)]
 pub enum LineFault {
     Kind(ScriptKind),
     NoMemory,

@@ -1,5 +1,5 @@
 //! The fields of a line.
-ghost use Rattle.std.specs.Prelude.{◌≡◌, ◌≤◌, IfOk, position};
+ghost use Rattle.std.specs.Prelude.{◌≡◌, position};
 ghost use Rattle.xv_script.specs.Field.{guest_field, dev_field, is_slash, port_field, file_field};
 ghost use Rattle.xv_script.specs.Field.{number_field, range_field, hex_field};
 ghost use Rattle.xv_script.specs.Progress.{GivesInLine};
@@ -64,8 +64,7 @@ pub(crate) fn number_field(word: &[u8]) -> Result<u64, ScriptKind>
 /// A number from 1 to the greatest.
 #[tactic(auto, unfolding(crate::specs::Field::range_field))]
 pub(crate) fn range_field(most: u32, word: &[u8]) -> Result<u32, ScriptKind>
-    ensures value { result ≡ range_field 1 most word.now }
-    ensures range { IfOk result (λ value. (1 ≤ value) × (value ≤ most)) }
+    ensures { result ≡ range_field 1 most word.now }
 {
     let value = number_field(word)?;
     if value < 1 || u64::from(most) < value {

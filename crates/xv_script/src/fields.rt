@@ -1,12 +1,13 @@
-//! The fields of each line: how many they are, and what they are.
-ghost use Rattle.std.specs.Prelude.{◌≡◌, ℕ, List, [], ◌∷◌, map, IfOk};
-ghost use Rattle.xv_script.specs.Command.{most_pages, most_shown, most_turns, IsInRange};
+//! The fields of each line, from the left.
+ghost use Rattle.std.specs.Prelude.{◌≡◌, ℕ, List, [], ◌∷◌, map};
+ghost use Rattle.xv_script.specs.Command.{most_pages, most_shown, most_turns};
 ghost use Rattle.xv_script.specs.Fault.{made_of};
 ghost use Rattle.xv_script.specs.Field.{Guest, Port, File, Number, Range, Hex};
 ghost use Rattle.xv_script.specs.Progress.{GivesInLine};
 ghost use Rattle.xv_script.specs.Row.{command_by};
 
 use crate::command::Command;
+use crate::count::{one_word, three_words, two_words};
 use crate::fault::{LineFault, ScriptKind};
 use crate::field::{file_field, guest_field, hex_field, number_field, port_field, range_field};
 use std::alloc::Global;
@@ -24,11 +25,10 @@ const MOST_TURNS: u32 = 100_000;
 /// `guest create N FILE`
 #[tactic(auto, unfolding(crate::specs::Row::command_by))]
 pub(crate) fn create(fields: &[&[u8]]) -> Result<Command, LineFault>
-    ensures exact { GivesInLine result
+    ensures { GivesInLine result
         (command_by (Guest ∷ File ∷ []) Command.Create (map (λ word. word.now) fields.now)) }
-    ensures range { IfOk result IsInRange }
 {
-    let [name, file] = fields else {
+    let Some((name, file)) = two_words(fields) else {
         return Err(LineFault::Kind(ScriptKind::Count));
     };
     let name = guest_field(name)?;
@@ -39,12 +39,11 @@ pub(crate) fn create(fields: &[&[u8]]) -> Result<Command, LineFault>
 /// `guest flat N PAGES`
 #[tactic(auto, unfolding(crate::specs::Row::command_by))]
 pub(crate) fn flat(fields: &[&[u8]]) -> Result<Command, LineFault>
-    ensures exact { GivesInLine result
+    ensures { GivesInLine result
         (command_by (Guest ∷ Range 1 most_pages ∷ []) Command.Flat
         (map (λ word. word.now) fields.now)) }
-    ensures range { IfOk result IsInRange }
 {
-    let [name, pages] = fields else {
+    let Some((name, pages)) = two_words(fields) else {
         return Err(LineFault::Kind(ScriptKind::Count));
     };
     let name = guest_field(name)?;
@@ -58,7 +57,7 @@ pub(crate) fn one_guest(fields: &[&[u8]]) -> Result<GuestName, ScriptKind>
     ensures { (make : List ℕ → Command) →
         command_by (Guest ∷ []) make (map (λ word. word.now) fields.now) ≡ made_of make result }
 {
-    let [name] = fields else {
+    let Some(name) = one_word(fields) else {
         return Err(ScriptKind::Count);
     };
     guest_field(name)
@@ -67,11 +66,10 @@ pub(crate) fn one_guest(fields: &[&[u8]]) -> Result<GuestName, ScriptKind>
 /// `guest load N GPA FILE`
 #[tactic(auto, unfolding(crate::specs::Row::command_by))]
 pub(crate) fn load(fields: &[&[u8]]) -> Result<Command, LineFault>
-    ensures exact { GivesInLine result
+    ensures { GivesInLine result
         (command_by (Guest ∷ Number ∷ File ∷ []) Command.Load (map (λ word. word.now) fields.now)) }
-    ensures range { IfOk result IsInRange }
 {
-    let [name, gpa, file] = fields else {
+    let Some((name, gpa, file)) = three_words(fields) else {
         return Err(LineFault::Kind(ScriptKind::Count));
     };
     let name = guest_field(name)?;
@@ -83,11 +81,10 @@ pub(crate) fn load(fields: &[&[u8]]) -> Result<Command, LineFault>
 /// `guest poke N GPA HEX`
 #[tactic(auto, unfolding(crate::specs::Row::command_by))]
 pub(crate) fn poke(alloc: Global, fields: &[&[u8]]) -> Result<Command, LineFault>
-    ensures exact { GivesInLine result
+    ensures { GivesInLine result
         (command_by (Guest ∷ Number ∷ Hex ∷ []) Command.Poke (map (λ word. word.now) fields.now)) }
-    ensures range { IfOk result IsInRange }
 {
-    let [name, gpa, hex] = fields else {
+    let Some((name, gpa, hex)) = three_words(fields) else {
         return Err(LineFault::Kind(ScriptKind::Count));
     };
     let name = guest_field(name)?;
@@ -99,11 +96,10 @@ pub(crate) fn poke(alloc: Global, fields: &[&[u8]]) -> Result<Command, LineFault
 /// `guest regs N V`
 #[tactic(auto, unfolding(crate::specs::Row::command_by))]
 pub(crate) fn regs(fields: &[&[u8]]) -> Result<Command, LineFault>
-    ensures exact { GivesInLine result
+    ensures { GivesInLine result
         (command_by (Guest ∷ Number ∷ []) Command.Regs (map (λ word. word.now) fields.now)) }
-    ensures range { IfOk result IsInRange }
 {
-    let [name, vcpu] = fields else {
+    let Some((name, vcpu)) = two_words(fields) else {
         return Err(LineFault::Kind(ScriptKind::Count));
     };
     let name = guest_field(name)?;
@@ -114,12 +110,11 @@ pub(crate) fn regs(fields: &[&[u8]]) -> Result<Command, LineFault>
 /// `guest mem N GPA LEN`
 #[tactic(auto, unfolding(crate::specs::Row::command_by))]
 pub(crate) fn mem(fields: &[&[u8]]) -> Result<Command, LineFault>
-    ensures exact { GivesInLine result
+    ensures { GivesInLine result
         (command_by (Guest ∷ Number ∷ Range 1 most_shown ∷ []) Command.Mem
         (map (λ word. word.now) fields.now)) }
-    ensures range { IfOk result IsInRange }
 {
-    let [name, gpa, len] = fields else {
+    let Some((name, gpa, len)) = three_words(fields) else {
         return Err(LineFault::Kind(ScriptKind::Count));
     };
     let name = guest_field(name)?;
@@ -131,11 +126,10 @@ pub(crate) fn mem(fields: &[&[u8]]) -> Result<Command, LineFault>
 /// `vserial input N/DEV HEX`
 #[tactic(auto, unfolding(crate::specs::Row::command_by))]
 pub(crate) fn input(alloc: Global, fields: &[&[u8]]) -> Result<Command, LineFault>
-    ensures exact { GivesInLine result
+    ensures { GivesInLine result
         (command_by (Port ∷ Hex ∷ []) Command.Input (map (λ word. word.now) fields.now)) }
-    ensures range { IfOk result IsInRange }
 {
-    let [port, hex] = fields else {
+    let Some((port, hex)) = two_words(fields) else {
         return Err(LineFault::Kind(ScriptKind::Count));
     };
     let (name, dev) = port_field(port)?;
@@ -146,11 +140,10 @@ pub(crate) fn input(alloc: Global, fields: &[&[u8]]) -> Result<Command, LineFaul
 /// `vserial dump N/DEV`
 #[tactic(auto, unfolding(crate::specs::Row::command_by))]
 pub(crate) fn dump(fields: &[&[u8]]) -> Result<Command, LineFault>
-    ensures exact { GivesInLine result
+    ensures { GivesInLine result
         (command_by (Port ∷ []) Command.Dump (map (λ word. word.now) fields.now)) }
-    ensures range { IfOk result IsInRange }
 {
-    let [port] = fields else {
+    let Some(port) = one_word(fields) else {
         return Err(LineFault::Kind(ScriptKind::Count));
     };
     let (name, dev) = port_field(port)?;
@@ -160,27 +153,40 @@ pub(crate) fn dump(fields: &[&[u8]]) -> Result<Command, LineFault>
 /// `run T`
 #[tactic(auto, unfolding(crate::specs::Row::command_by))]
 pub(crate) fn run(fields: &[&[u8]]) -> Result<Command, LineFault>
-    ensures exact { GivesInLine result
+    ensures { GivesInLine result
         (command_by (Range 1 most_turns ∷ []) Command.Run (map (λ word. word.now) fields.now)) }
-    ensures range { IfOk result IsInRange }
 {
-    let [turns] = fields else {
+    let Some(turns) = one_word(fields) else {
         return Err(LineFault::Kind(ScriptKind::Count));
     };
     let turns = range_field(MOST_TURNS, turns)?;
     Ok(Command::Run(turns))
 }
 
-/// The number where the fields are one number alone.
+/// `clock V`
 #[tactic(auto, unfolding(crate::specs::Row::command_by))]
-pub(crate) fn one_number(fields: &[&[u8]]) -> Result<u64, ScriptKind>
-    ensures { (make : ℕ → Command) →
-        command_by (Number ∷ []) make (map (λ word. word.now) fields.now) ≡ made_of make result }
+pub(crate) fn clock(fields: &[&[u8]]) -> Result<Command, LineFault>
+    ensures { GivesInLine result
+        (command_by (Number ∷ []) Command.Clock (map (λ word. word.now) fields.now)) }
 {
-    let [value] = fields else {
-        return Err(ScriptKind::Count);
+    let Some(value) = one_word(fields) else {
+        return Err(LineFault::Kind(ScriptKind::Count));
     };
-    number_field(value)
+    let value = number_field(value)?;
+    Ok(Command::Clock(value))
+}
+
+/// `tick D`
+#[tactic(auto, unfolding(crate::specs::Row::command_by))]
+pub(crate) fn tick(fields: &[&[u8]]) -> Result<Command, LineFault>
+    ensures { GivesInLine result
+        (command_by (Number ∷ []) Command.Tick (map (λ word. word.now) fields.now)) }
+{
+    let Some(value) = one_word(fields) else {
+        return Err(LineFault::Kind(ScriptKind::Count));
+    };
+    let value = number_field(value)?;
+    Ok(Command::Tick(value))
 }
 
 /// Sees that there are no fields.

@@ -1,19 +1,21 @@
 //! A line of a script: the command that its words say.
-ghost use Rattle.std.specs.Prelude.{◌≡◌, ℕ, List, ◌∷◌, map, codes, IfOk, IfSome};
+ghost use Rattle.std.specs.Prelude.{◌≡◌, ℕ, List, [], ◌∷◌, map};
 ghost use Rattle.std.specs.Str.{bytes_eq};
-ghost use Rattle.xv_script.specs.Command.{IsInRange};
+ghost use Rattle.xv_script.specs.Order.{to_guest, ordered};
 ghost use Rattle.xv_script.specs.Progress.{GivesInLine};
 ghost use Rattle.xv_script.specs.Row.{guest_rows, name_rows, vserial_rows, other_rows};
-ghost use Rattle.xv_script.specs.Row.{command_with, command_of};
+ghost use Rattle.xv_script.specs.Row.{command_with, command_in, command_of};
 ghost use Rattle.xv_script.specs.Script.{line_of};
 
 use crate::command::Command;
+use crate::count::first_word;
 use crate::fault::{LineFault, ScriptKind};
 use crate::fields::{
-    create, dump, flat, input, load, mem, no_field, one_guest, one_number, poke, regs, run,
+    clock, create, dump, flat, input, load, mem, no_field, one_guest, poke, regs, run, tick,
 };
 use crate::text::{are_allowed, is_comment, without_return, words_of};
 use std::alloc::Global;
+use xv_base::GuestName;
 
 /// Whether a word is this text.
 fn is_text(word: &[u8], text: &str) -> bool
@@ -22,12 +24,13 @@ fn is_text(word: &[u8], text: &str) -> bool
     word == text.as_bytes()
 }
 
-/// The command of a line about a guest, of the second word and the fields behind it.
-fn guest_line(alloc: Global, verb: &[u8], fields: &[&[u8]]) -> Result<Command, LineFault>
-    ensures exact { GivesInLine result
-        (command_with guest_rows verb.now (map (λ word. word.now) fields.now)) }
-    ensures range { IfOk result IsInRange }
+/// The command of a line about a guest, of the words behind the first.
+fn guest_line(alloc: Global, words: &[&[u8]]) -> Result<Command, LineFault>
+    ensures { GivesInLine result (command_in guest_rows (map (λ word. word.now) words.now)) }
 {
+    let Some((verb, fields)) = first_word(words) else {
+        return Err(LineFault::Kind(ScriptKind::Word));
+    };
     if is_text(verb, "create") {
         create(fields)
     } else if is_text(verb, "flat") {
@@ -48,39 +51,80 @@ fn guest_line(alloc: Global, verb: &[u8], fields: &[&[u8]]) -> Result<Command, L
     }
 }
 
-/// The command of a line that has a guest's name alone behind the second word.
-fn name_line(verb: &[u8], fields: &[&[u8]]) -> Result<Command, LineFault>
-    ensures exact { GivesInLine result
-        (command_with name_rows verb.now (map (λ word. word.now) fields.now)) }
-    ensures range { IfOk result IsInRange }
+/// What a line asks of a guest of which it gives the name alone.
+#[derive(Clone, Copy)]
+pub enum Order {
+    Kick,
+    Pause,
+    Resume,
+    Reset,
+    Halt,
+    Destroy,
+    Digest,
+    Audit,
+}
+
+/// The order of which this is the second word.
+fn order_of(verb: &[u8]) -> Option<Order>
+    ensures { (words : List (List ℕ)) →
+        command_with name_rows verb.now words ≡ ordered result words }
 {
     if is_text(verb, "kick") {
-        Ok(Command::Kick(one_guest(fields)?))
+        Some(Order::Kick)
     } else if is_text(verb, "pause") {
-        Ok(Command::Pause(one_guest(fields)?))
+        Some(Order::Pause)
     } else if is_text(verb, "resume") {
-        Ok(Command::Resume(one_guest(fields)?))
+        Some(Order::Resume)
     } else if is_text(verb, "reset") {
-        Ok(Command::Reset(one_guest(fields)?))
+        Some(Order::Reset)
     } else if is_text(verb, "halt") {
-        Ok(Command::Halt(one_guest(fields)?))
+        Some(Order::Halt)
     } else if is_text(verb, "destroy") {
-        Ok(Command::Destroy(one_guest(fields)?))
+        Some(Order::Destroy)
     } else if is_text(verb, "digest") {
-        Ok(Command::Digest(one_guest(fields)?))
+        Some(Order::Digest)
     } else if is_text(verb, "audit") {
-        Ok(Command::Audit(one_guest(fields)?))
+        Some(Order::Audit)
     } else {
-        Err(LineFault::Kind(ScriptKind::Word))
+        None
     }
 }
 
-/// The command of a line about serial ports, of the second word and the fields behind it.
-fn vserial_line(alloc: Global, verb: &[u8], fields: &[&[u8]]) -> Result<Command, LineFault>
-    ensures exact { GivesInLine result
-        (command_with vserial_rows verb.now (map (λ word. word.now) fields.now)) }
-    ensures range { IfOk result IsInRange }
+/// The order, to the guest of this name.
+fn to_guest(order: Order, name: GuestName) -> Command
+    ensures { result ≡ to_guest order name }
 {
+    match order {
+        Order::Kick => Command::Kick(name),
+        Order::Pause => Command::Pause(name),
+        Order::Resume => Command::Resume(name),
+        Order::Reset => Command::Reset(name),
+        Order::Halt => Command::Halt(name),
+        Order::Destroy => Command::Destroy(name),
+        Order::Digest => Command::Digest(name),
+        Order::Audit => Command::Audit(name),
+    }
+}
+
+/// The command of a line that has a guest's name alone behind the second word.
+fn name_line(verb: &[u8], fields: &[&[u8]]) -> Result<Command, LineFault>
+    ensures { GivesInLine result
+        (command_with name_rows verb.now (map (λ word. word.now) fields.now)) }
+{
+    let Some(order) = order_of(verb) else {
+        return Err(LineFault::Kind(ScriptKind::Word));
+    };
+    let name = one_guest(fields)?;
+    Ok(to_guest(order, name))
+}
+
+/// The command of a line about serial ports, of the words behind the first.
+fn vserial_line(alloc: Global, words: &[&[u8]]) -> Result<Command, LineFault>
+    ensures { GivesInLine result (command_in vserial_rows (map (λ word. word.now) words.now)) }
+{
+    let Some((verb, fields)) = first_word(words) else {
+        return Err(LineFault::Kind(ScriptKind::Word));
+    };
     if is_text(verb, "input") {
         input(alloc, fields)
     } else if is_text(verb, "dump") {
@@ -95,14 +139,13 @@ fn vserial_line(alloc: Global, verb: &[u8], fields: &[&[u8]]) -> Result<Command,
 
 /// The command of a line of another first word and the fields behind it.
 fn other_line(first: &[u8], fields: &[&[u8]]) -> Result<Command, LineFault>
-    ensures exact { GivesInLine result
+    ensures { GivesInLine result
         (command_with other_rows first.now (map (λ word. word.now) fields.now)) }
-    ensures range { IfOk result IsInRange }
 {
     if is_text(first, "clock") {
-        Ok(Command::Clock(one_number(fields)?))
+        clock(fields)
     } else if is_text(first, "tick") {
-        Ok(Command::Tick(one_number(fields)?))
+        tick(fields)
     } else if is_text(first, "run") {
         run(fields)
     } else {
@@ -113,22 +156,15 @@ fn other_line(first: &[u8], fields: &[&[u8]]) -> Result<Command, LineFault>
 /// The command of the words of a line.
 #[tactic(auto, unfolding(crate::specs::Row::command_of))]
 fn command_of(alloc: Global, words: &[&[u8]]) -> Result<Command, LineFault>
-    ensures exact { GivesInLine result (command_of (map (λ word. word.now) words.now)) }
-    ensures range { IfOk result IsInRange }
+    ensures { GivesInLine result (command_of (map (λ word. word.now) words.now)) }
 {
-    let [first, others @ ..] = words else {
+    let Some((first, others)) = first_word(words) else {
         return Err(LineFault::Kind(ScriptKind::Word));
     };
     if is_text(first, "guest") {
-        let [verb, fields @ ..] = others else {
-            return Err(LineFault::Kind(ScriptKind::Word));
-        };
-        guest_line(alloc, verb, fields)
+        guest_line(alloc, others)
     } else if is_text(first, "vserial") {
-        let [verb, fields @ ..] = others else {
-            return Err(LineFault::Kind(ScriptKind::Word));
-        };
-        vserial_line(alloc, verb, fields)
+        vserial_line(alloc, others)
     } else {
         other_line(first, others)
     }
@@ -137,8 +173,7 @@ fn command_of(alloc: Global, words: &[&[u8]]) -> Result<Command, LineFault>
 /// The command of a line, if it is no comment. One carriage return at its end is dropped.
 #[tactic(auto, unfolding(crate::specs::Script::line_of))]
 pub(crate) fn line_of(alloc: Global, line: &[u8]) -> Result<Option<Command>, LineFault>
-    ensures exact { GivesInLine result (line_of line.now) }
-    ensures range { IfOk result (λ found. IfSome found IsInRange) }
+    ensures { GivesInLine result (line_of line.now) }
 {
     let kept = without_return(line);
     if !are_allowed(kept) {

@@ -1,5 +1,5 @@
 //! A script: its lines, one after another.
-ghost use Rattle.std.specs.Prelude.{◌≡◌, ◌≤◌, ◌^◌, length, IfOk, OnOk};
+ghost use Rattle.std.specs.Prelude.{◌≡◌, ◌≤◌, ◌^◌, length, IfOk};
 ghost use Rattle.xv_script.specs.Command.{AreInRange};
 ghost use Rattle.xv_script.specs.Progress.{Gives, with_line};
 ghost use Rattle.xv_script.specs.Script.{line_of, commands_from, most_bytes, commands};
@@ -54,9 +54,8 @@ fn read_line(
     line: &[u8],
     found: &mut Vec<Line>,
 ) -> Result<(), ScriptFault>
-    ensures exact { Gives (λ _. found.new.items) result
+    ensures { Gives (λ _. found.new.items) result
         (with_line found.old.items number (line_of line.now)) }
-    ensures range { AreInRange found.old.items → OnOk result (AreInRange found.new.items) }
 {
     match line_of(alloc, line) {
         Ok(None) => Ok(()),

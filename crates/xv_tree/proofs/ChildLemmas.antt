@@ -1,11 +1,11 @@
 -- A loop over all nodes that passes over those that lie elsewhere goes over the children of one
 -- node.
-use Rattle.std.proofs.Common.{◌≡◌, ◌≢◌, ℕ, zero, suc, ◌+◌, ◌<◌, ◌≤◌, ◌==◌, Bool, true, false, cond}
+use Rattle.std.proofs.Common.{◌≡◌, ◌≢◌, ℕ, ◌+◌, ◌<◌, ◌≤◌, ◌==◌, true, false}
 use Rattle.std.proofs.Common.{List, [], ◌∷◌, length, get_or, drop, refl, sym, ap, ◌∙◌, arith}
 use Rattle.std.proofs.lemmas.Bool.Decides.{nat_tests}
 use Rattle.std.proofs.lemmas.List.{drop_more, drop_all}
 use Rattle.xv_fdt.specs.Tree.{Entry}
-use Rattle.xv_tree.specs.Children.{Numbered, children_from}
+use Rattle.xv_tree.specs.Children.{children_from}
 
 same-parent : (a b : ℕ) → a ≡ b → (a == b) ≡ true
 same-parent a b is = grind (arith, nat_tests)

@@ -3,3 +3,4 @@ pub mod SoundLemmas
 pub mod PlanLemmas
 pub mod ValueLemmas
 pub mod Examples
+pub mod StartLemmas

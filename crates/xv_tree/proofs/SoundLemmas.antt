@@ -1,12 +1,12 @@
 -- The regions that are kept are sound by themselves.
-use Rattle.std.proofs.Common.{◌≡◌, ℕ, ◌+◌, ◌%◌, ◌<◌, ◌≤◌, ◌==◌, Bool, true, false, ◌&&◌, not, cond}
+use Rattle.std.proofs.Common.{◌≡◌, ℕ, ◌+◌, ◌%◌, ◌==◌, Bool, true, false, ◌&&◌, not, cond}
 use Rattle.std.proofs.Common.{leb, ltb}
 use Rattle.std.proofs.Common.{List, [], ◌∷◌, ◌++◌, length, take, codes, Option, Some, None, Result}
 use Rattle.std.proofs.Common.{Ok, Err}
-use Rattle.std.proofs.Common.{refl, sym, ap, subst, ◌∙◌, arith}
+use Rattle.std.proofs.Common.{refl, subst, arith}
 use Rattle.std.specs.Prelude.{IsTrue}
 use Rattle.std.specs.Int.{w32, from_be_bytes}
-use Rattle.std.specs.List.{list_all, list_any}
+use Rattle.std.specs.List.{list_all}
 use Rattle.std.proofs.lemmas.Bool.Decides.{nat_tests}
 use Rattle.std.proofs.lemmas.List.{length_push}
 use Rattle.xv_region.specs.declared.plan.Kind.{Kind}
@@ -28,7 +28,7 @@ use Rattle.xv_tree.specs.Regions.{Kept, also_kept, base_in, irq_at, irq_in, kept
 use Rattle.xv_tree.specs.Regions.{region_at}
 use Rattle.xv_tree.specs.Regions.{region_of, shift_at, shift_in, size_in, sort_of, unit_of}
 use Rattle.xv_tree.specs.Regions.{with_node}
-use Rattle.xv_tree.specs.Regions.{is_second, nothing_kept, region_from, uart_of}
+use Rattle.xv_tree.specs.Regions.{is_second, nothing_kept, region_from}
 use Rattle.xv_tree.specs.Values.{number_of, value_of, word}
 
 -- ---- steps that went well

@@ -1,6 +1,7 @@
 -- The VCPUs of a guest, by the children of the node `vcpus`.
-use Rattle.std.specs.Prelude.{ℕ, ◌%◌, ◌==◌, Bool, ◌&&◌, nat_le, if◌then◌else◌, List, [], ◌∷◌, ◌++◌}
-use Rattle.std.specs.Prelude.{Option, Some, None, Result, Ok, Err, codes, slice_get}
+use Rattle.std.specs.Prelude.{ℕ, ◌%◌, ◌==◌, nat_le, if◌then◌else◌, List, [], ◌∷◌, ◌++◌}
+use Rattle.std.specs.Prelude.{◌≡◌, Option, Some, None, Result, Ok, Err, codes, slice_get}
+use Rattle.std.specs.List.{All}
 use Rattle.xv_region.specs.declared.plan.VcpuPlan.{VcpuPlan}
 use Rattle.xv_region.specs.Plan.{usual_priority}
 use Rattle.xv_fdt.specs.Fault.{◌>>=◌}
@@ -52,3 +53,7 @@ counted (Some first) (Some ninth) vcpus = Err (At TooManyVcpus ninth.0)
 
 unfoldable pub vcpus_of : List Numbered → Result (List VcpuPlan) PlanFault
 vcpus_of nodes = counted (slice_get nodes 0) (slice_get nodes 8) (in_turn with_vcpu [] nodes)
+
+-- each of them starts where an instruction may begin
+abbrev pub AreStarts : List VcpuPlan → Type 0
+AreStarts vcpus = All (λ vcpu. vcpu.start % 4 ≡ 0) vcpus

@@ -7,6 +7,7 @@ ghost use Rattle.xv_tree.specs.Children.{children};
 ghost use Rattle.xv_tree.specs.Fault.{Gives};
 ghost use Rattle.xv_tree.specs.Plan.{plan, regions_of};
 ghost use Rattle.xv_tree.specs.Seen.{plan_fault};
+ghost use Rattle.xv_tree.specs.Vcpus.{AreStarts};
 
 use crate::children::root_child;
 use crate::fault::{PlanFault, PlanKind};
@@ -23,6 +24,7 @@ pub fn plan_of(alloc: Global, tree: &Tree, area: Span) -> Result<Plan, PlanFault
     requires allowed { IsAllowed tree.now }
     ensures plan { Gives (λ plan. plan) result (plan tree.now area) }
     ensures accepted { IfOk result (λ plan. Accepted plan.regions) }
+    ensures starts { IfOk result (λ plan. AreStarts plan.vcpus) }
 {
     is_shaped();
     has_few_nodes();

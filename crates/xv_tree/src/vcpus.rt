@@ -1,8 +1,9 @@
 //! The VCPUs that a tree describes.
-ghost use Rattle.std.specs.Prelude.{◌≡◌, ◌<◌, ◌^◌, [], length, IfErr, OnOk, Ok, option_copied};
+ghost use Rattle.std.specs.Prelude.{◌≡◌, ◌<◌, ◌^◌, [], length, IfErr, IfOk, OnOk, Ok};
+ghost use Rattle.std.specs.Prelude.{option_copied};
 ghost use Rattle.xv_tree.specs.Children.{children};
 ghost use Rattle.xv_tree.specs.Fault.{Fails, Gives, in_turn};
-ghost use Rattle.xv_tree.specs.Vcpus.{priority_in, start_in, vcpu_of, vcpus_of, with_vcpu};
+ghost use Rattle.xv_tree.specs.Vcpus.{AreStarts, priority_in, start_in, vcpu_of, vcpus_of, with_vcpu};
 
 use crate::children::child_at;
 use crate::fault::{PlanFault, PlanKind};
@@ -22,6 +23,7 @@ pub(crate) fn vcpus_of(
 ) -> Result<Vec<VcpuPlan>, PlanFault>
     requires few { length nodes.now < 2 ^ 32 }
     ensures exact { Gives (λ vcpus. vcpus.items) result (vcpus_of (children parent nodes.now)) }
+    ensures starts { IfOk result (λ vcpus. AreStarts vcpus.items) }
 {
     let Some(_) = child_at(nodes, parent, 0) else {
         return Err(PlanFault::At {

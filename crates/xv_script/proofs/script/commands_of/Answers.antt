@@ -3,7 +3,9 @@ use Rattle.std.proofs.lemmas.Iterator.Consumers.{YieldsList-at, YieldsList-turn,
 use Rattle.std.proofs.lemmas.Iterator.Splits.{YieldsList-from_slice_split}
 use Rattle.std.proofs.lemmas.List.{length_push}
 use Rattle.std.proofs.lemmas.Result.{err_from_is_err_and}
+use Rattle.xv_script.proofs.RangeLemmas.{commands_from-in_range}
 use Rattle.xv_script.proofs.ScriptLemmas.{next_line, fails_at, last_line, few_lines}
+use Rattle.xv_script.specs.Text.{lines}
 use Rattle.xv_script.proofs.script.commands_of.Goals as goal
 
 pub loop-line-preserved : goal.loop-line-preserved
@@ -20,9 +22,8 @@ loop-line-preserved c =
       is_finite = search rules;
       count = omega (arith, c.loop-line.invariant.count, more);
       exact =
-          next_line _ _ _ _ _ _ _ c.loop-line.invariant.count turn c.in_ok-read_line.ensures.exact
+          next_line _ _ _ _ _ _ _ c.loop-line.invariant.count turn c.in_ok-read_line.ensures
           c.loop-line.invariant.exact;
-      range = search rules;
     }
 
 pub returns-in_err-read_line-clause-exact : goal.returns-in_err-read_line-clause-exact
@@ -35,7 +36,7 @@ returns-in_err-read_line-clause-exact c =
     c.loop-line.yielded _ c.loop-line.yielded_by _ _ c.in-Some.line c.in-Some.is
     c.next.ensures.steps in
     let failed = fails_at c.in_err-read_line.field-0.0 _ _ _ _ _ _ c.loop-line.invariant.count turn
-    c.in_err-read_line.ensures.exact c.loop-line.invariant.exact in
+    c.in_err-read_line.ensures c.loop-line.invariant.exact in
     let passed = err_from_is_err_and c.from_residual.result c.from_residual.ensures.1 in
     rw (passed.1, passed.2) failed
 
@@ -51,3 +52,7 @@ returns-clause-exact c =
 
 pub returns-clause-few : goal.returns-clause-few
 returns-clause-few c = few_lines c.args.text.now _ c.requires (returns-clause-exact c)
+
+pub returns-clause-range : goal.returns-clause-range
+returns-clause-range c =
+    commands_from-in_range 1 (lines c.args.text.now) _ (returns-clause-exact c)

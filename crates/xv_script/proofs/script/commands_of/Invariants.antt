@@ -1,5 +1,4 @@
 use Rattle.std.proofs.Common.{◌≡◌, ◌+◌, length, drop}
-use Rattle.xv_script.specs.Command.{AreInRange}
 use Rattle.xv_script.specs.Progress.{with_front}
 use Rattle.xv_script.specs.Script.{commands_from}
 use Rattle.xv_script.specs.Text.{lines}
@@ -13,5 +12,4 @@ invariant-loop-line l = record {
   exact :
       with_front l.found.items (commands_from (l.number + 1) (drop l.number (lines l.text)))
       ≡ commands_from 1 (lines l.text);
-  range : AreInRange l.found.items;
 }

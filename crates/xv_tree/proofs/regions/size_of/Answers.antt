@@ -1,4 +1,4 @@
-use Rattle.std.proofs.Common.{◌≡◌, ◌∙◌, ap, codes}
+use Rattle.std.proofs.Common.{◌∙◌, ap, codes}
 use Rattle.xv_fdt.specs.Tree.{Entry}
 use Rattle.xv_tree.specs.Regions.{size_in, unit_of}
 use Rattle.xv_tree.specs.Values.{number_of}
