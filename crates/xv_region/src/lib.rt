@@ -8,8 +8,6 @@ mod map;
 mod need;
 mod plan;
 mod rules;
-#[cfg(test)]
-mod tests;
 
 pub use cell::Cell;
 pub use fault::RegionFault;

@@ -49,7 +49,8 @@ turn_starts (n ∷ ns) vcpus all given is =
   where
     by_vcpu : ((next : List VcpuPlan) → AreStarts next → in_turn with_vcpu next ns ≡ Ok all
         → AreStarts all) → (r : Result VcpuPlan PlanKind) → vcpu_of n.1.props ≡ r
-        → ((fault_at n.0 r >>= λ vcpu. Ok (vcpus ++ vcpu ∷ [])) >>= λ next. in_turn with_vcpu next ns)
+        → ((fault_at n.0 r >>= λ vcpu. Ok (vcpus ++ vcpu ∷ []))
+        >>= λ next. in_turn with_vcpu next ns)
         ≡ Ok all → AreStarts all
     by_vcpu follows (Err kind) here is = cc
     by_vcpu follows (Ok vcpu) here is =
@@ -60,5 +61,6 @@ turn_starts (n ∷ ns) vcpus all given is =
 pub gives_starts : {X : Type 0} (view : X → List VcpuPlan) (result : Result X PlanFault)
     (nodes : List Numbered) → Gives view result (in_turn with_vcpu [] nodes)
     → IfOk result (λ x. AreStarts (view x))
-gives_starts view (Ok x) nodes given = turn_starts nodes [] (view x) (All-nil (λ v. v.start % 4 ≡ 0)) given
+gives_starts view (Ok x) nodes given =
+    turn_starts nodes [] (view x) (All-nil (λ v. v.start % 4 ≡ 0)) given
 gives_starts view (Err fault) nodes given = tt

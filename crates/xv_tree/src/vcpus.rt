@@ -3,7 +3,8 @@ ghost use Rattle.std.specs.Prelude.{◌≡◌, ◌<◌, ◌^◌, [], length, IfE
 ghost use Rattle.std.specs.Prelude.{option_copied};
 ghost use Rattle.xv_tree.specs.Children.{children};
 ghost use Rattle.xv_tree.specs.Fault.{Fails, Gives, in_turn};
-ghost use Rattle.xv_tree.specs.Vcpus.{AreStarts, priority_in, start_in, vcpu_of, vcpus_of, with_vcpu};
+ghost use Rattle.xv_tree.specs.Vcpus.{AreStarts, priority_in, start_in, vcpu_of, vcpus_of};
+ghost use Rattle.xv_tree.specs.Vcpus.{with_vcpu};
 
 use crate::children::child_at;
 use crate::fault::{PlanFault, PlanKind};
