@@ -4,7 +4,5 @@
 
 mod digits;
 mod printer;
-#[cfg(test)]
-mod tests;
 
 pub use printer::{Printer, ROOM};
