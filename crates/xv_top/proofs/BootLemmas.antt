@@ -1,6 +1,6 @@
 -- The script that a source has, the text that is read of it, and what stands at each status.
 use Rattle.std.proofs.Common.{◌≡◌, ℕ, ◌<◌, ◌≤◌, false, cond, leb, List, [], ◌∷◌, ◌++◌, length, take}
-use Rattle.std.proofs.Common.{map, get_or, Option, Some, None, Result, Ok, Err, subst, refl, sym}
+use Rattle.std.proofs.Common.{map, get_or, Option, Some, None, Ok, Err, subst, refl, sym}
 use Rattle.std.proofs.Common.{ap}
 use Rattle.std.proofs.Common.{◌∙◌, arith, inl, inr, ◌⊎◌, IsTrue}
 use Rattle.std.proofs.lemmas.Bool.Decides.{nat_tests}
@@ -10,7 +10,6 @@ use Rattle.xv_outside.specs.Fetch.{FileMap}
 use Rattle.xv_outside.specs.Outside.{left_after, taken_with, TookFront}
 use Rattle.xv_script.specs.declared.command.Line.{Line}
 use Rattle.xv_script.specs.declared.fault.ScriptKind.TheVariants as kind
-use Rattle.xv_script.specs.Fault.{Fault}
 use Rattle.xv_script.specs.Script.{commands, commands_from}
 use Rattle.xv_script.specs.Text.{lines}
 use Rattle.xv_hart.specs.declared.machine.Machine.{Machine}
@@ -18,13 +17,12 @@ use Rattle.xv_hart.specs.Hart.{taken_by}
 use Rattle.xv_hart.specs.Machine.{area_of}
 use Rattle.xv_top.specs.declared.manager.Manager.{Manager}
 use Rattle.xv_top.specs.Boot.{IsTextOf, IsScriptOf, Holds, IsServed, IsRun, IsNoScript, IsRefused}
-use Rattle.xv_top.specs.Boot.{IsStoppedIn, IsStopped, IsCutLine, IsCutRefusal, IsCutIn, IsCutShort}
+use Rattle.xv_top.specs.Boot.{IsStoppedIn, IsStopped, IsCutIn, IsCutShort}
 use Rattle.xv_top.specs.Boot.{HoldsWorld, emptied, most_read}
 use Rattle.xv_top.specs.Commands.{answer, is_fetching}
 use Rattle.xv_top.specs.Layout.{memory_size}
 use Rattle.xv_top.specs.Manager.{world_of, guests_of}
 use Rattle.xv_top.specs.Run.{HaveRun, IsStop, IsCut}
-use Rattle.xv_top.specs.Texts.{script_text}
 use Rattle.xv_top.specs.Transcript.{answers, world_after, work_after, transcript, transcript_of}
 use Rattle.xv_top.specs.World.{World, first_world}
 use Rattle.xv_top.proofs.JournalLemmas.{replayed}

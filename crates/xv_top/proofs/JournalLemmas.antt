@@ -30,8 +30,8 @@ use Rattle.xv_top.specs.World.{LiveGuest, World, GuestEntry, RunSoFar, first_wor
 use Rattle.xv_top.specs.World.{change_entry, guest_turn, one_turn, pick, run_from, run_of}
 use Rattle.xv_top.specs.World.{guest_named, free}
 use Rattle.xv_top.specs.Answer.{Answer, refused, says, where_there, where_reset, with_file}
-use Rattle.xv_top.specs.Births.{admitted, created, where_alone, is_built, plan_answer, tree_answer}
-use Rattle.xv_top.specs.Births.{create_answer, flat_answer}
+use Rattle.xv_top.specs.Births.{admitted, where_alone, is_built, plan_answer, tree_answer}
+use Rattle.xv_top.specs.Births.{create_answer}
 use Rattle.xv_top.specs.Contents.{put_at, put_into, load_bytes, load_guest, peeked, mem_of}
 use Rattle.xv_top.specs.Commands.{answer, regs_of_vcpu, run_answer, unbuilt}
 use Rattle.xv_top.specs.Files.{file_of, most_tree, most_image}

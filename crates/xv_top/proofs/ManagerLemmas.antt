@@ -1,7 +1,7 @@
 -- How the manager's guest, clock and counts are the world, command by command.
 use Rattle.std.proofs.Common.{◌≡◌, ℕ, zero, suc, slice_get, ◌+◌, ◌-◌, ◌%◌, ◌^◌, ◌<◌, ◌≤◌, Bool}
 use Rattle.std.proofs.Common.{true, false, cond, ltb, List, [], ◌∷◌, ◌++◌, length, replicate}
-use Rattle.std.proofs.Common.{Option, Some, None, is_some, option_map, map, find, codes, subst}
+use Rattle.std.proofs.Common.{Option, Some, None, is_some, option_map, map, find, subst}
 use Rattle.std.proofs.Common.{refl, sym, ap, ◌∙◌, arith, ◌&&◌, leb, IsTrue, IfSome}
 use Rattle.std.specs.Str.{bytes_eq}
 use Rattle.std.proofs.lemmas.Bool.{cond-true}

@@ -1,8 +1,7 @@
 -- The plans that are built may stand, and their memory has pages of the pool.
 use Rattle.std.proofs.Common.{◌≡◌, ℕ, ◌+◌, ◌*◌, ◌/◌, ◌%◌, ◌^◌, ◌≤◌, Bool, true, false, eqb, leb}
-use Rattle.std.proofs.Common.{ltb, ◌&&◌, [], ◌∷◌, None, IsTrue, refl, sym, ap, ◌∙◌, subst, arith}
+use Rattle.std.proofs.Common.{ltb, ◌&&◌, IsTrue, refl, arith}
 use Rattle.std.proofs.lemmas.Bool.Decides.{nat_tests}
-use Rattle.xv_region.specs.declared.plan.Region.{Region}
 use Rattle.xv_region.specs.Need.{need}
 use Rattle.xv_region.specs.Plan.{flat, flat_base}
 use Rattle.xv_region.specs.Rules.{Accepted, are_sound, first_fault, fault_from, is_sound}

@@ -1,6 +1,6 @@
 -- What stands at each end of the program.
 use Rattle.std.specs.Prelude.{◌≡◌, ℕ, ◌+◌, ◌≤◌, ◌⊎◌, List, [], ◌∷◌, ◌++◌, length, take, Option}
-use Rattle.std.specs.Prelude.{Some, None, option_map, codes, Result, Ok, Err, IsTrue}
+use Rattle.std.specs.Prelude.{Some, None, option_map, codes, Ok, Err, IsTrue}
 use Rattle.xv_outside.specs.Outside.{taken_with, left_after, TookFront}
 use Rattle.xv_mem.specs.Bytes.{range}
 use Rattle.xv_outside.specs.Fetch.{FileMap}
@@ -13,7 +13,7 @@ use Rattle.xv_script.specs.Script.{commands, most_bytes}
 use Rattle.xv_hart.specs.declared.machine.Machine.{Machine}
 use Rattle.xv_hart.specs.Hart.{taken_by}
 use Rattle.xv_hart.specs.Machine.{area_of}
-use Rattle.xv_top.specs.World.{LiveGuest, World, first_world}
+use Rattle.xv_top.specs.World.{LiveGuest, first_world}
 use Rattle.xv_top.specs.Layout.{host_base, memory_size}
 use Rattle.xv_top.specs.Texts.{script_text}
 use Rattle.xv_top.specs.Commands.{answer, is_fetching}

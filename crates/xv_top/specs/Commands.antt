@@ -1,5 +1,5 @@
 -- What each command answers.
-use Rattle.std.specs.Prelude.{ℕ, ◌+◌, nat_lt, Bool, true, false, not, ◌&&◌, if◌then◌else◌, List}
+use Rattle.std.specs.Prelude.{ℕ, ◌+◌, nat_lt, Bool, false, not, ◌&&◌, if◌then◌else◌, List}
 use Rattle.std.specs.Prelude.{length, Option, Some, None, is_some, slice_get, codes}
 use Rattle.xv_outside.specs.Fetch.{FileMap}
 use Rattle.xv_lone.specs.declared.vcpu.VcpuView.{VcpuView}

@@ -1,5 +1,4 @@
 use Rattle.std.proofs.Common.{◌∙◌, [], refl, sym, ap, subst, arith}
-use Rattle.xv_base.specs.Fault.{Rose}
 use Rattle.xv_hart.specs.Hart.{taken_by}
 use Rattle.xv_top.specs.Manager.{world_of}
 use Rattle.xv_top.specs.Run.{HaveRun}

@@ -1,4 +1,4 @@
-use Rattle.std.proofs.Common.{◌∙◌, ap}
+use Rattle.std.proofs.Common.{◌∙◌}
 use Rattle.std.proofs.lemmas.Result.{on_ok_weaker}
 use Rattle.xv_top.specs.Manager.{world_of}
 use Rattle.xv_top.proofs.BootLemmas.{served_is, stop_is, cut_line_is}

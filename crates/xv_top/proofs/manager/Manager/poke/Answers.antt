@@ -1,6 +1,6 @@
 use Rattle.std.proofs.Common.{◌∙◌, length, refl, ap}
 use Rattle.xv_top.specs.Contents.{put_into}
-use Rattle.xv_top.specs.Manager.{live_guest, world_of}
+use Rattle.xv_top.specs.Manager.{world_of}
 use Rattle.xv_top.specs.Texts.{poked_text}
 use Rattle.xv_top.proofs.ManagerLemmas.{gives_by, gives_printed}
 use Rattle.xv_top.proofs.manager.Manager.poke.Goals as goal
