@@ -15,7 +15,7 @@ const MOST_READ: usize = MOST_BYTES + 1;
 const CHUNK: usize = 4096;
 
 /// Why no script was read.
-#[derive(Clone, Copy, Debug, PartialEq, Eq)]
+#[derive(Clone, Copy)]
 pub enum ReadFault {
     Failed,
     NoMemory,

@@ -1,7 +1,7 @@
 //! Why a run of the program ended before its last line.
 
 /// Each reason has the status that the program ends with.
-#[derive(Clone, Copy, Debug, PartialEq, Eq)]
+#[derive(Clone, Copy)]
 pub enum Stop {
     /// The script is outside of the grammar, and its line was written.
     Refused,
@@ -16,7 +16,7 @@ pub enum Stop {
 }
 
 /// Why a line has no answer.
-#[derive(Clone, Copy, Debug, PartialEq, Eq)]
+#[derive(Clone, Copy)]
 pub enum LineStop {
     /// A file could not be read.
     FileFault,
