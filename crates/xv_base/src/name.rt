@@ -1,5 +1,5 @@
 //! The names that a script may give: of a guest, of a device's node, and of a file.
-ghost use Rattle.std.specs.Prelude.{◌≡◌, Some, None, if◌then◌else◌, IsTrue};
+ghost use Rattle.std.specs.Prelude.{◌≡◌, Some, None, if◌then◌else◌, IsTrue, nat_le, length};
 ghost use Rattle.std.specs.List.{list_all};
 ghost use Rattle.std.specs.Char.{is_ascii_graphic};
 ghost use Rattle.xv_base.specs.Name.{is_guest_byte, is_dev_byte, is_word, has_length};
@@ -149,11 +149,11 @@ pub fn file_name_of(bytes: &[u8]) -> Option<FileName>
     }
 }
 
-#[tactic(auto, using(std::proofs::lemmas::Bool::Decides::nat_tests), unfolding(crate::specs::Name::is_guest_name))]
+#[tactic(auto, unfolding(crate::specs::Name::is_guest_name))]
 fn is_guest_name(bytes: &[u8]) -> bool
     ensures { result ≡ is_guest_name bytes.now }
 {
-    is_word(bytes) && bytes.len() <= 31
+    is_word(bytes) && is_at_most(bytes, 31)
 }
 
 #[tactic(auto, unfolding(crate::specs::Name::is_dev_name))]
@@ -168,6 +168,13 @@ fn is_file_name(bytes: &[u8]) -> bool
     ensures { result ≡ is_file_name bytes.now }
 {
     has_length(bytes, 255) && are_file_bytes(bytes)
+}
+
+#[tactic(auto, using(std::proofs::lemmas::Bool::Decides::nat_tests))]
+fn is_at_most(bytes: &[u8], most: usize) -> bool
+    ensures { result ≡ nat_le (length bytes.now) most }
+{
+    bytes.len() <= most
 }
 
 pub(crate) fn has_length(bytes: &[u8], most: usize) -> bool

@@ -20,12 +20,13 @@ pub fn number_of(bytes: &[u8]) -> Option<u64>
     }
 }
 
-#[tactic(auto, using(crate::proofs::NumberLemmas::numerals), unfolding(crate::specs::Number::numeral_value))]
+#[tactic(auto, unfolding(crate::specs::Number::numeral_value))]
 fn numeral_of(digits: &[u8], radix: u32, most: usize) -> Option<u64>
     requires least { 2 ≤ radix }
     requires greatest { radix ≤ 36 }
     ensures { result ≡ numeral_value radix most digits.now }
 {
+    #[tactic(auto, using(crate::proofs::NumberLemmas::numerals))]
     if is_numeral(digits, radix, most) {
         value_of(digits, radix)
     } else {

@@ -13,7 +13,7 @@ use Rattle.xv_bus.specs.declared.registers.PlicRegister.TheVariants.{Threshold, 
 use Rattle.xv_bus.specs.Device.{Answer, answer}
 use Rattle.xv_bus.specs.Plic.{PlicUnit, plic_accessed, plic_load, plic_store, plic_after_read}
 use Rattle.xv_bus.specs.Plic.{plic_written, plic_register, load_answer, store_answer, claim}
-use Rattle.xv_bus.specs.Plic.{claimed, is_served}
+use Rattle.xv_bus.specs.Plic.{claimed, is_served, lifted}
 
 after_read-contexts : (plic : PlicUnit) (register : PlicRegister)
     → (plic_after_read plic register).contexts ≡ plic.contexts
@@ -75,4 +75,8 @@ accessed-contexts plic at (Store W4 value) =
     (store-contexts plic value (plic_register plic.contexts at))
 accessed-contexts plic at (Store W8 value) = refl
 
-pub ruleset contexts_stay = accessed-contexts
+pub lifted-contexts : (lines : ℕ) (plic : PlicUnit) → (lifted lines plic).contexts ≡ plic.contexts
+unfolding lifted
+lifted-contexts lines plic = refl
+
+pub ruleset contexts_stay = (accessed-contexts, lifted-contexts)

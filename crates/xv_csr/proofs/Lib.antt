@@ -1,3 +1,4 @@
 pub mod BitsLemmas
 mod CauseValues
 pub mod KeptLemmas
+pub mod Literals

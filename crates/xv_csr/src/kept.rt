@@ -21,14 +21,14 @@ pub const VECTORED: u64 = 1;
 
 const BARE: u64 = 0;
 
-#[tactic(auto, unfolding(crate::specs::Kept::kept_sstatus, bitflags::proofs::OnLiterals::bitflags_on_literals))]
+#[tactic(auto, unfolding(crate::proofs::Literals::kept_flags))]
 pub fn kept_sstatus(value: u64) -> u64
     ensures { result ≡ kept_sstatus value }
 {
     Sstatus::from_bits_truncate(value).bits() + UXL
 }
 
-#[tactic(auto, unfolding(crate::specs::Kept::kept_sie, bitflags::proofs::OnLiterals::bitflags_on_literals))]
+#[tactic(auto, unfolding(crate::proofs::Literals::kept_flags))]
 pub fn kept_sie(value: u64) -> u64
     ensures { result ≡ kept_sie value }
 {

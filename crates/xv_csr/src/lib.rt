@@ -96,7 +96,7 @@ fn register_of(number: u16) -> Option<Register>
 
 impl SCsrs {
     /// The registers after a reset: 0 in each, but for the read-only UXL = 2 of sstatus.
-    #[tactic(auto, using(crate::proofs::KeptLemmas::reset_csrs_kept), unfolding(crate::specs::Reset::reset_csrs))]
+    #[tactic(auto, unfolding(crate::proofs::Literals::kept_at_reset))]
     pub fn reset() -> SCsrs
         ensures values { result ≡ reset_csrs }
         ensures keeps { IsKept result }

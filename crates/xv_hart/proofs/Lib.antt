@@ -1,4 +1,4 @@
 pub mod AccessLemmas
-pub mod EffectLemmas
+pub mod Fields
 pub mod StepLemmas
 pub mod ZeroLemmas

@@ -12,7 +12,7 @@ use xv_isa::{Insn, Op, op_of};
 
 /// What the instruction at `pc` asks for, where the integer registers are `x`, and the instruction
 /// behind it stands at `next`.
-#[tactic(auto, using(crate::proofs::EffectLemmas::registers_fit, crate::proofs::EffectLemmas::number_fits), unfolding(xv_isa::specs::Effects::effect_of))]
+#[tactic(auto, using(crate::proofs::Fields::fit), unfolding(xv_isa::specs::Effects::effect_of))]
 pub(crate) fn effect(insn: &Insn, x: &[u64; 32], pc: u64, next: u64) -> Action
     requires { InRange insn.now }
     ensures action { action_of result ≡ effects.effect_of insn.now x.now pc next }

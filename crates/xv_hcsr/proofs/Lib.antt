@@ -1,3 +1,4 @@
 pub mod LineLemmas
 pub mod TimeLemmas
 pub mod Examples
+pub mod Literals

@@ -43,7 +43,7 @@ pub struct HCsrs {
 impl HCsrs {
     /// The registers for the guest with the key `vmid` behind the root table of number `root`. Its
     /// time is the host's clock and `delta`, modulo 2^64. No line is up.
-    #[tactic(auto, unfolding(crate::specs::Guest::guest_hcsrs, bitflags::proofs::OnLiterals::bitflags_on_literals))]
+    #[tactic(auto, unfolding(crate::proofs::Literals::guest_values))]
     pub fn for_guest(root: u8, vmid: GuestKey, delta: u64) -> HCsrs
         ensures values { result ≡ guest_hcsrs root vmid delta }
         ensures mode { stage_mode result ≡ 8 }

@@ -6,13 +6,14 @@ ghost use Rattle.xv_plic.specs.Registers.{IsRegister};
 use xv_bus::{Half, PlicRegister};
 
 /// The register at an offset, or None where none is.
-#[tactic(auto, using(std::proofs::lemmas::Bool::Decides::nat_tests), unfolding(xv_bus::specs::Plic::plic_register))]
+#[tactic(auto, unfolding(xv_bus::specs::Plic::plic_register))]
 pub fn register_at(contexts: u8, at: u64) -> Option<PlicRegister>
     requires { contexts ≤ 8 }
     ensures register { result ≡ plics.plic_register contexts at }
     ensures there { IfSome result (IsRegister contexts) }
 {
     let count = contexts as u64;
+    #[tactic(auto, using(std::proofs::lemmas::Bool::Decides::nat_tests))]
     if is_within(0x4, 0x4, 63, at) {
         Some(PlicRegister::Priority(place(0x4, 0x4, at) + 1))
     } else if is_within(0x1000, 0x4, 1, at) {

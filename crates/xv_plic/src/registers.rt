@@ -145,7 +145,7 @@ impl Registers {
         Outcome::Done
     }
 
-    #[tactic(auto, unfolding(xv_bus::specs::Plic::plic_shown, xv_bus::specs::Plic::plic_after_read))]
+    #[tactic(auto, unfolding(crate::proofs::Words::read))]
     fn read(&mut self, register: PlicRegister) -> u64
         requires { IsRegister self.old.contexts register }
         ensures value { result ≡ plics.plic_shown self.old register }

@@ -27,7 +27,7 @@ fn lines_of(lines: u64) -> u64
     lines / 2 * 2
 }
 
-#[tactic(auto, using(xv_bus::proofs::PlicLemmas::contexts_stay), unfolding(xv_bus::specs::Plic::lifted))]
+#[tactic(auto, using(xv_bus::proofs::PlicLemmas::contexts_stay))]
 fn run(rt: &impl Abort, plic: &mut Plic, contexts: u8, steps: &[Step])
     requires { contexts ≤ plic.old.contexts }
     ensures { plic.new.contexts ≡ plic.old.contexts }

@@ -4,7 +4,7 @@
 
 ghost use Rattle.std.specs.Prelude.{◌≡◌};
 ghost use Rattle.xv_base.specs.Bits.{has_bit};
-ghost use Rattle.xv_csr.specs.Fields.{sie_bit, IsInstructionAddress};
+ghost use Rattle.xv_csr.specs.Fields.{sie_bit, spp_bit, IsInstructionAddress};
 ghost use Rattle.xv_csr.specs.Kept.{IsKept};
 ghost use Rattle.xv_csr.specs.Pending.{chosen_interrupt, first_of};
 ghost use Rattle.xv_csr.specs.Trap.{trap_status, trap_csrs, handler, return_status, return_csrs};
@@ -97,11 +97,18 @@ fn return_status(status: u64) -> u64
     status.bits()
 }
 
-#[tactic(auto, using(crate::proofs::BitLemmas::contained), unfolding(xv_csr::specs::Trap::returns_to_user))]
+#[tactic(auto, unfolding(xv_csr::specs::Trap::returns_to_user))]
 fn was_user(csrs: &SCsrs) -> bool
     ensures { result ≡ returns_to_user csrs.now }
 {
-    !Sstatus::from_bits_retain(csrs.sstatus).contains(Sstatus::SPP)
+    !was_supervisor(csrs.sstatus)
+}
+
+#[tactic(auto, using(crate::proofs::BitLemmas::contained))]
+fn was_supervisor(status: u64) -> bool
+    ensures { result ≡ has_bit spp_bit status }
+{
+    Sstatus::from_bits_retain(status).contains(Sstatus::SPP)
 }
 
 #[tactic(auto, using(crate::proofs::BitLemmas::contained))]

@@ -92,3 +92,5 @@ pub number_fits : (i : Insn) (o : Op) → InRange i → o ≡ operation_at i.row
 number_fits i o h e csr =
     number_of (form_of i.row) (operation_at i.row) i (below_at row_passes 97 i.row rows_pass h.0)
     (ap is_csr (sym e) ∙ csr) h.1
+
+pub ruleset fit = (registers_fit, number_fits)
