@@ -20,10 +20,12 @@ use Rattle.xv_top.specs.Boot.{IsTextOf, IsScriptOf, Holds, IsServed, IsRun, IsNo
 use Rattle.xv_top.specs.Boot.{IsStoppedIn, IsStopped, IsCutIn, IsCutShort}
 use Rattle.xv_top.specs.Boot.{HoldsWorld, emptied, most_read}
 use Rattle.xv_top.specs.Commands.{answer, is_fetching}
+use Rattle.xv_top.specs.Files.{StandsFor}
 use Rattle.xv_top.specs.Layout.{memory_size}
 use Rattle.xv_top.specs.Manager.{world_of, guests_of}
 use Rattle.xv_top.specs.Run.{HaveRun, IsStop, IsCut}
-use Rattle.xv_top.specs.Transcript.{answers, world_after, work_after, transcript, transcript_of}
+use Rattle.xv_top.specs.Transcript.{answers, fetches, world_after, work_after, transcript}
+use Rattle.xv_top.specs.Transcript.{transcript_of}
 use Rattle.xv_top.specs.World.{World, first_world}
 use Rattle.xv_top.proofs.JournalLemmas.{replayed}
 
@@ -111,19 +113,23 @@ module _ (mib : ℕ) (left_old left_new taken_old taken_new : Option (List ℕ))
   same : commands (script_of left_old text) ≡ commands text
   same = sym (commands_same left_old text told)
 
-  pub run_is : (files : FileMap) → left_new ≡ left_after left_old most_read
-      → IsServed mib files text taken_old taken_new machine
-      → IsRun mib files left_old left_new taken_old taken_new machine
-  run_is files left served = record {
+  pub run_is : (given : Option FileMap) → left_new ≡ left_after left_old most_read
+      → IsServed mib given text taken_old taken_new machine
+      → IsRun mib given left_old left_new taken_old taken_new machine
+  run_is given left served = record {
     script = script_of left_old text;
     told = script_told left_old text;
     left = left ∙ nothing_left left_old text served.lines told served.grammar;
     served = record {
       lines = served.lines;
       grammar = same ∙ served.grammar;
-      taken = served.taken ∙ ap (taken_with taken_old) (transcript_same mib files left_old text
-          told);
-      holds = served.holds;
+      served = λ files is.
+          let all = served.served files is in
+          record {
+            taken = all.taken
+                ∙ ap (taken_with taken_old) (transcript_same mib files left_old text told);
+            holds = all.holds;
+          };
     };
   }
 
@@ -141,9 +147,9 @@ module _ (mib : ℕ) (left_old left_new taken_old taken_new : Option (List ℕ))
     };
   }
 
-  pub stopped_is : (files : FileMap) → IsStoppedIn mib files text taken_old taken_new machine
-      → IsStopped mib files left_old taken_old taken_new machine
-  stopped_is files stopped = record {
+  pub stopped_is : (given : Option FileMap) → IsStoppedIn mib given text taken_old taken_new machine
+      → IsStopped mib given left_old taken_old taken_new machine
+  stopped_is given stopped = record {
     script = script_of left_old text;
     told = script_told left_old text;
     stopped = record {
@@ -153,22 +159,20 @@ module _ (mib : ℕ) (left_old left_new taken_old taken_new : Option (List ℕ))
         after = stopped.at.after;
         grammar = same ∙ stopped.at.grammar;
       };
-      fetching = stopped.fetching;
-      taken = stopped.taken;
-      holds = stopped.holds;
+      stopped = stopped.stopped;
     };
   }
 
-  pub cut_is : (files : FileMap) → IsCutIn mib files text taken_old taken_new machine
-      → IsCutShort mib files left_old taken_old taken_new machine
-  cut_is files cut = record {
+  pub cut_is : (given : Option FileMap) → IsCutIn mib given text taken_old taken_new machine
+      → IsCutShort mib given left_old taken_old taken_new machine
+  cut_is given cut = record {
     script = script_of left_old text;
     told = script_told left_old text;
     cut = cut_in cut;
   }
     where
-      cut_in : IsCutIn mib files text taken_old taken_new machine
-          → IsCutIn mib files (script_of left_old text) taken_old taken_new machine
+      cut_in : IsCutIn mib given text taken_old taken_new machine
+          → IsCutIn mib given (script_of left_old text) taken_old taken_new machine
       cut_in (inl line) = inl (record {
         at = record {
           before = line.at.before;
@@ -176,8 +180,7 @@ module _ (mib : ℕ) (left_old left_new taken_old taken_new : Option (List ℕ))
           after = line.at.after;
           grammar = same ∙ line.at.grammar;
         };
-        taken = line.taken;
-        holds = line.holds;
+        cut = line.cut;
       })
       cut_in (inr refusal) = inr (record {
         line = refusal.line;
@@ -187,13 +190,14 @@ module _ (mib : ℕ) (left_old left_new taken_old taken_new : Option (List ℕ))
       })
 
 -- what the lines of a script do, by what the run of them ensures
-module _ (mib : ℕ) (files : FileMap) (text : List ℕ) (ls all : List Line) (w : World)
+module _ (mib : ℕ) (given : Option FileMap) (text : List ℕ) (ls all : List Line) (w : World)
     (grammar : commands text ≡ Ok ls) (same : all ≡ ls) (start : w ≡ first_world mib)
     (taken_old taken_new : Option (List ℕ)) (before machine : Machine) (m : Manager)
     (size : length machine.mem ≡ memory_size mib) (area : machine.area ≡ area_of mib 0) where
-  holds : (done : List Line) → world_of m machine.mem ≡ world_after files w done
+  holds : (files : FileMap) (done : List Line)
+      → world_of m machine.mem ≡ world_after files w done
       → work_after files w done ≤ taken_by machine.hart → Holds mib files done machine
-  holds done world work = record {
+  holds files done world work = record {
     size = size;
     area = area;
     memory = subst (λ x. HoldsWorld machine.mem x.guests)
@@ -202,18 +206,28 @@ module _ (mib : ℕ) (files : FileMap) (text : List ℕ) (ls all : List Line) (w
     stepped = omega (arith, work, ap (λ x. work_after files x done) start);
   }
 
-  pub served_is : HaveRun files all w (world_of m machine.mem) taken_old taken_new
-      (taken_by machine.hart) → IsServed mib files text taken_old taken_new machine
-  served_is run = record {
+  from_first : (files : FileMap) (done : List Line)
+      → StandsFor given files (fetches files (first_world mib) done)
+      → StandsFor given files (fetches files w done)
+  from_first files done = subst (λ x. StandsFor given files (fetches files x done)) (sym start)
+
+  pub served_is : ((files : FileMap) → StandsFor given files (fetches files w all)
+      → HaveRun files all w (world_of m machine.mem) taken_old taken_new (taken_by machine.hart))
+      → IsServed mib given text taken_old taken_new machine
+  served_is ran = record {
     lines = all;
     grammar = grammar ∙ ap Ok (sym same);
-    taken = run.taken ∙ ap (taken_with taken_old) (ap (λ x. answers files x all) start
-        ∙ sym (transcript_some mib files text all (grammar ∙ ap Ok (sym same))));
-    holds = holds all run.world run.work;
+    served = λ files is.
+        let run = ran files (from_first files all is) in
+        record {
+          taken = run.taken ∙ ap (taken_with taken_old) (ap (λ x. answers files x all) start
+              ∙ sym (transcript_some mib files text all (grammar ∙ ap Ok (sym same))));
+          holds = holds files all run.world run.work;
+        };
   }
 
-  pub stop_is : IsStop files all w (world_of m machine.mem) taken_old taken_new
-      (taken_by machine.hart) → IsStoppedIn mib files text taken_old taken_new machine
+  pub stop_is : IsStop given all w (world_of m machine.mem) taken_old taken_new
+      (taken_by machine.hart) → IsStoppedIn mib given text taken_old taken_new machine
   stop_is stop = record {
     at = record {
       before = stop.before;
@@ -221,15 +235,20 @@ module _ (mib : ℕ) (files : FileMap) (text : List ℕ) (ls all : List Line) (w
       after = stop.after;
       grammar = grammar ∙ ap Ok (sym same ∙ stop.whole);
     };
-    fetching = subst (λ x. IsTrue (is_fetching (world_after files x stop.before) stop.line.command))
-        start stop.fetching;
-    taken = stop.run.taken
-        ∙ ap (taken_with taken_old) (ap (λ x. answers files x stop.before) start);
-    holds = holds stop.before stop.run.world stop.run.work;
+    stopped = λ files is.
+        let ran = stop.ran files (from_first files stop.before is) in
+        record {
+          fetching = subst
+              (λ x. IsTrue (is_fetching (world_after files x stop.before) stop.line.command))
+              start ran.fetching;
+          taken = ran.run.taken
+              ∙ ap (taken_with taken_old) (ap (λ x. answers files x stop.before) start);
+          holds = holds files stop.before ran.run.world ran.run.work;
+        };
   }
 
-  pub cut_line_is : IsCut files all w (world_of m machine.mem) taken_old taken_new
-      (taken_by machine.hart) → IsCutIn mib files text taken_old taken_new machine
+  pub cut_line_is : IsCut given all w (world_of m machine.mem) taken_old taken_new
+      (taken_by machine.hart) → IsCutIn mib given text taken_old taken_new machine
   cut_line_is cut = inl (record {
     at = record {
       before = cut.before;
@@ -237,7 +256,13 @@ module _ (mib : ℕ) (files : FileMap) (text : List ℕ) (ls all : List Line) (w
       after = cut.after;
       grammar = grammar ∙ ap Ok (sym same ∙ cut.whole);
     };
-    taken = subst (λ x. TookFront (taken_with taken_old (answers files x cut.before)) taken_new
-        (answer files (world_after files x cut.before) cut.line.command).text) start cut.taken;
-    holds = holds (cut.before ++ cut.line ∷ []) cut.world cut.work;
+    cut = λ files is.
+        let ran = cut.ran files (from_first files (cut.before ++ cut.line ∷ []) is) in
+        record {
+          taken = subst
+              (λ x. TookFront (taken_with taken_old (answers files x cut.before)) taken_new
+              (answer files (world_after files x cut.before) cut.line.command).text)
+              start ran.taken;
+          holds = holds files (cut.before ++ cut.line ∷ []) ran.world ran.work;
+        };
   })

@@ -1,7 +1,7 @@
 -- Lines one after another: what the first of them did, and one more.
 use Rattle.std.proofs.Common.{◌≡◌, ℕ, ◌+◌, ◌<◌, ◌≤◌, List, [], ◌∷◌, ◌++◌, length, get_or, take}
 use Rattle.std.proofs.Common.{drop, Option, true, subst, refl, sym, ap, ◌∙◌, arith}
-use Rattle.std.proofs.lemmas.List.{drop_more, take_all, take_more, take-append-drop, append_assoc}
+use Rattle.std.proofs.lemmas.List.{drop_more, take_more, take-append-drop, append_assoc}
 use Rattle.std.proofs.lemmas.List.{append-nil}
 use Rattle.xv_outside.specs.Fetch.{FileMap}
 use Rattle.xv_outside.specs.Outside.{taken_with, TookFront}
@@ -10,7 +10,7 @@ use Rattle.xv_script.specs.declared.command.Line.{Line}
 use Rattle.xv_top.specs.World.{World}
 use Rattle.xv_top.specs.Answer.{Answer}
 use Rattle.xv_top.specs.Commands.{answer, is_fetching}
-use Rattle.xv_top.specs.Run.{HaveRun, IsStop, IsCut}
+use Rattle.xv_top.specs.Run.{HaveRun, RanToFetch, RanToCut}
 use Rattle.xv_top.specs.Transcript.{answers, world_after, work_after}
 
 pub run_none : (files : FileMap) (first : World) (taken : Option (List ℕ))
@@ -50,14 +50,9 @@ module _ (files : FileMap) (l : Line) where
       omega (arith, work_last a.world ls)
 
 -- the first lines of all, one more, and the others
-module _ (files : FileMap) (ls : List Line) (made : ℕ) (more : made < length ls) (l : Line)
-    (here : l ≡ get_or ls made l) (first now after : World)
-    (taken_old taken_now taken_new : Option (List ℕ)) (stepped stepped_after : ℕ)
-    (run : HaveRun files (take made ls) first now taken_old taken_now stepped) where
-  abbrev this : Answer
-  this = answer files now l.command
-
-  whole : ls ≡ take made ls ++ l ∷ drop (made + 1) ls
+module _ (ls : List Line) (made : ℕ) (more : made < length ls) (l : Line)
+    (here : l ≡ get_or ls made l) where
+  pub whole : ls ≡ take made ls ++ l ∷ drop (made + 1) ls
   whole =
       sym (take-append-drop made ls)
       ∙ ap (λ r. take made ls ++ r) (drop_more ls made l more
@@ -65,6 +60,14 @@ module _ (files : FileMap) (ls : List Line) (made : ℕ) (more : made < length l
 
   one_more : take (made + 1) ls ≡ take made ls ++ l ∷ []
   one_more = take_more ls made l more ∙ ap (λ x. take made ls ++ x ∷ []) (sym here)
+
+-- what they did
+module _ (files : FileMap) (ls : List Line) (made : ℕ) (more : made < length ls) (l : Line)
+    (here : l ≡ get_or ls made l) (first now after : World)
+    (taken_old taken_now taken_new : Option (List ℕ)) (stepped stepped_after : ℕ)
+    (run : HaveRun files (take made ls) first now taken_old taken_now stepped) where
+  abbrev this : Answer
+  this = answer files now l.command
 
   this_is : answer files (world_after files first (take made ls)) l.command ≡ this
   this_is = ap (λ w. answer files w l.command) (sym run.world)
@@ -90,7 +93,7 @@ module _ (files : FileMap) (ls : List Line) (made : ℕ) (more : made < length l
       → HaveRun files (take (made + 1) ls) first after taken_old taken_new stepped_after
   run_more text printed world counted taken =
       subst (λ all. HaveRun files all first after taken_old taken_new stepped_after)
-      (sym one_more) (record {
+      (sym (one_more ls made more l here)) (record {
         taken = taken ∙ (ap (λ t. taken_with t text) run.taken
             ∙ (taken_with_both taken_old (answers files first (take made ls)) text
             ∙ ap (taken_with taken_old)
@@ -104,12 +107,8 @@ module _ (files : FileMap) (ls : List Line) (made : ℕ) (more : made < length l
   -- it was run, and its answer cut short
   pub run_cut : (text : List ℕ) → text ≡ this.text → after ≡ this.world
       → stepped + this.work ≤ stepped_after → TookFront taken_now taken_new text
-      → IsCut files ls first after taken_old taken_new stepped_after
+      → RanToCut files (take made ls) l first after taken_old taken_new stepped_after
   run_cut text printed world counted front = record {
-    before = take made ls;
-    line = l;
-    after = drop (made + 1) ls;
-    whole = whole;
     taken = subst (λ t. TookFront t taken_new
         (answer files (world_after files first (take made ls)) l.command).text) run.taken
         (subst (TookFront taken_now taken_new) (printed ∙ ap (λ a. a.text) (sym this_is)) front);
@@ -119,12 +118,9 @@ module _ (files : FileMap) (ls : List Line) (made : ℕ) (more : made < length l
 
   -- it stopped
   pub run_stops : is_fetching now l.command ≡ true → after ≡ now → stepped_after ≡ stepped
-      → taken_new ≡ taken_now → IsStop files ls first after taken_old taken_new stepped_after
+      → taken_new ≡ taken_now
+      → RanToFetch files (take made ls) l first after taken_old taken_new stepped_after
   run_stops fetching world counted taken = record {
-    before = take made ls;
-    line = l;
-    after = drop (made + 1) ls;
-    whole = whole;
     fetching = ap (λ w. is_fetching w l.command) (sym run.world) ∙ fetching;
     run = record {
       taken = taken ∙ run.taken;
@@ -132,12 +128,3 @@ module _ (files : FileMap) (ls : List Line) (made : ℕ) (more : made < length l
       work = omega (arith, run.work, counted);
     };
   }
-
--- no line is left
-pub run_all_is : (files : FileMap) (ls : List Line) (made : ℕ) (first now : World)
-    (taken_old taken_now : Option (List ℕ)) (stepped : ℕ) → length ls ≤ made
-    → HaveRun files (take made ls) first now taken_old taken_now stepped
-    → HaveRun files ls first now taken_old taken_now stepped
-run_all_is files ls made first now taken_old taken_now stepped all run =
-    subst (λ done. HaveRun files done first now taken_old taken_now stepped)
-    (take_all made ls all) run

@@ -6,6 +6,7 @@ mod PlanLemmas
 mod ManagerLemmas
 mod RunLemmas
 mod ReadLemmas
+mod FetchLemmas
 mod FoldLemmas
 mod BootLemmas
 mod JournalLemmas

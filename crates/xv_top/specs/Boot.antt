@@ -17,8 +17,9 @@ use Rattle.xv_top.specs.World.{LiveGuest, first_world}
 use Rattle.xv_top.specs.Layout.{host_base, memory_size}
 use Rattle.xv_top.specs.Texts.{script_text}
 use Rattle.xv_top.specs.Commands.{answer, is_fetching}
+use Rattle.xv_top.specs.Files.{StandsFor}
 use Rattle.xv_top.specs.Journals.{entries_by, AreReplayed}
-use Rattle.xv_top.specs.Transcript.{answers, world_after, work_after, transcript}
+use Rattle.xv_top.specs.Transcript.{answers, fetches, world_after, work_after, transcript}
 
 -- the words that the program takes: `boot` alone
 abbrev pub AreRight : List (List ℕ) → Type 0
@@ -75,22 +76,27 @@ pub record Holds (mib : ℕ) (files : FileMap) (lines : List Line) (machine : Ma
 
 -- ---- at each status
 
--- Every line of the script was run: the transcript was taken and nothing else.
-pub record IsServed (mib : ℕ) (files : FileMap) (script : List ℕ)
+-- The transcript was taken and nothing else, and the machine holds the world of its lines.
+pub record HasServed (mib : ℕ) (files : FileMap) (script : List ℕ) (lines : List Line)
     (taken_old taken_new : Option (List ℕ)) (machine : Machine) : Type 0 where
-  pub lines : List Line
-  pub grammar : commands script ≡ Ok lines
   pub taken : taken_new ≡ taken_with taken_old (transcript mib files script)
   pub holds : Holds mib files lines machine
 
+-- Every line of the script was run.
+pub record IsServed (mib : ℕ) (given : Option FileMap) (script : List ℕ)
+    (taken_old taken_new : Option (List ℕ)) (machine : Machine) : Type 0 where
+  pub lines : List Line
+  pub grammar : commands script ≡ Ok lines
+  pub served : (files : FileMap) → StandsFor given files (fetches files (first_world mib) lines)
+      → HasServed mib files script lines taken_old taken_new machine
+
 -- The script was read to its end and served.
-pub record IsRun (mib : ℕ) (files : FileMap) (left_old left_new taken_old taken_new : Option (List
-    ℕ))
-    (machine : Machine) : Type 0 where
+pub record IsRun (mib : ℕ) (given : Option FileMap)
+    (left_old left_new taken_old taken_new : Option (List ℕ)) (machine : Machine) : Type 0 where
   pub script : List ℕ
   pub told : IsScriptOf left_old script
   pub left : left_new ≡ emptied left_old
-  pub served : IsServed mib files script taken_old taken_new machine
+  pub served : IsServed mib given script taken_old taken_new machine
 
 -- Bytes are no script: the line that says so was taken and nothing else.
 pub record IsNoScript (script : List ℕ) (taken_old taken_new : Option (List ℕ)) : Type 0 where
@@ -113,31 +119,43 @@ pub record LineOf (script : List ℕ) : Type 0 where
   pub after : List Line
   pub grammar : commands script ≡ Ok (before ++ line ∷ after)
 
--- One of the lines of a script stopped in the fetch of its file: what the lines before it answer
--- was
--- taken and nothing else, and the machine holds their world.
-pub record IsStoppedIn (mib : ℕ) (files : FileMap) (script : List ℕ)
+-- A line came to the fetch of its file: what the lines before it answer was taken and nothing else,
+-- and the machine holds their world.
+pub record HasStoppedAt (mib : ℕ) (files : FileMap) (before : List Line) (line : Line)
+    (taken_old taken_new : Option (List ℕ)) (machine : Machine) : Type 0 where
+  pub fetching : IsTrue (is_fetching (world_after files (first_world mib) before) line.command)
+  pub taken : taken_new ≡ taken_with taken_old (answers files (first_world mib) before)
+  pub holds : Holds mib files before machine
+
+-- One of the lines of a script stopped in the fetch of its file.
+pub record IsStoppedIn (mib : ℕ) (given : Option FileMap) (script : List ℕ)
     (taken_old taken_new : Option (List ℕ)) (machine : Machine) : Type 0 where
   pub at : LineOf script
-  pub fetching : IsTrue
-      (is_fetching (world_after files (first_world mib) at.before) at.line.command)
-  pub taken : taken_new ≡ taken_with taken_old (answers files (first_world mib) at.before)
-  pub holds : Holds mib files at.before machine
+  pub stopped : (files : FileMap)
+      → StandsFor given files (fetches files (first_world mib) at.before)
+      → HasStoppedAt mib files at.before at.line taken_old taken_new machine
 
-pub record IsStopped (mib : ℕ) (files : FileMap) (left_old taken_old taken_new : Option (List ℕ))
-    (machine : Machine) : Type 0 where
+pub record IsStopped (mib : ℕ) (given : Option FileMap)
+    (left_old taken_old taken_new : Option (List ℕ)) (machine : Machine) : Type 0 where
   pub script : List ℕ
   pub told : IsScriptOf left_old script
-  pub stopped : IsStoppedIn mib files script taken_old taken_new machine
+  pub stopped : IsStoppedIn mib given script taken_old taken_new machine
 
--- The answer to one of the lines was cut short: what the lines before it answer was taken, and a
--- front of this answer; the machine holds the world after it.
-pub record IsCutLine (mib : ℕ) (files : FileMap) (script : List ℕ)
+-- What the lines before a line answer was taken, and a front of the answer to that line; the
+-- machine holds the world after it.
+pub record WasCutAt (mib : ℕ) (files : FileMap) (before : List Line) (line : Line)
+    (taken_old taken_new : Option (List ℕ)) (machine : Machine) : Type 0 where
+  pub taken : TookFront (taken_with taken_old (answers files (first_world mib) before)) taken_new
+      (answer files (world_after files (first_world mib) before) line.command).text
+  pub holds : Holds mib files (before ++ line ∷ []) machine
+
+-- The answer to one of the lines was cut short.
+pub record IsCutLine (mib : ℕ) (given : Option FileMap) (script : List ℕ)
     (taken_old taken_new : Option (List ℕ)) (machine : Machine) : Type 0 where
   pub at : LineOf script
-  pub taken : TookFront (taken_with taken_old (answers files (first_world mib) at.before)) taken_new
-      (answer files (world_after files (first_world mib) at.before) at.line.command).text
-  pub holds : Holds mib files (at.before ++ at.line ∷ []) machine
+  pub cut : (files : FileMap)
+      → StandsFor given files (fetches files (first_world mib) (at.before ++ at.line ∷ []))
+      → WasCutAt mib files at.before at.line taken_old taken_new machine
 
 -- The line of a refused script was cut short.
 pub record IsCutRefusal (script : List ℕ) (taken_old taken_new : Option (List ℕ)) : Type 0 where
@@ -147,17 +165,17 @@ pub record IsCutRefusal (script : List ℕ) (taken_old taken_new : Option (List 
   pub taken : TookFront taken_old taken_new (script_text line kind)
 
 -- The sink failed in what the script gives.
-abbrev pub IsCutIn : ℕ → FileMap → (script : List ℕ) → (taken_old taken_new : Option (List ℕ))
-    → Machine → Type 0
-IsCutIn mib files script taken_old taken_new machine =
-    IsCutLine mib files script taken_old taken_new machine
+abbrev pub IsCutIn : ℕ → Option FileMap → (script : List ℕ)
+    → (taken_old taken_new : Option (List ℕ)) → Machine → Type 0
+IsCutIn mib given script taken_old taken_new machine =
+    IsCutLine mib given script taken_old taken_new machine
     ⊎ IsCutRefusal script taken_old taken_new
 
-pub record IsCutShort (mib : ℕ) (files : FileMap) (left_old taken_old taken_new : Option (List ℕ))
-    (machine : Machine) : Type 0 where
+pub record IsCutShort (mib : ℕ) (given : Option FileMap)
+    (left_old taken_old taken_new : Option (List ℕ)) (machine : Machine) : Type 0 where
   pub script : List ℕ
   pub told : IsScriptOf left_old script
-  pub cut : IsCutIn mib files script taken_old taken_new machine
+  pub cut : IsCutIn mib given script taken_old taken_new machine
 
 -- the statuses that there are
 abbrev pub IsStatus : ℕ → Type 0

@@ -4,7 +4,8 @@ use Rattle.xv_outside.specs.Fetch.{FileMap}
 use Rattle.xv_outside.specs.Outside.{taken_with, TookFront}
 use Rattle.xv_script.specs.declared.command.Line.{Line}
 use Rattle.xv_top.specs.Commands.{answer, is_fetching}
-use Rattle.xv_top.specs.Transcript.{answers, world_after, work_after}
+use Rattle.xv_top.specs.Files.{StandsFor}
+use Rattle.xv_top.specs.Transcript.{answers, fetches, world_after, work_after}
 use Rattle.xv_top.specs.World.{World}
 
 -- the lines were run: the answers to them were taken and nothing else, this is the world that they
@@ -15,25 +16,36 @@ pub record HaveRun (files : FileMap) (lines : List Line) (first now : World)
   pub world : now ≡ world_after files first lines
   pub work : work_after files first lines ≤ stepped
 
--- a line stopped in the fetch of its file, and those before it were run
-pub record IsStop (files : FileMap) (lines : List Line) (first now : World)
+-- lines were run, and the one behind them came to the fetch of its file
+pub record RanToFetch (files : FileMap) (before : List Line) (line : Line) (first now : World)
     (taken_old taken_new : Option (List ℕ)) (stepped : ℕ) : Type 0 where
-  pub before : List Line
-  pub line : Line
-  pub after : List Line
-  pub whole : lines ≡ before ++ line ∷ after
   pub fetching : IsTrue (is_fetching (world_after files first before) line.command)
   pub run : HaveRun files before first now taken_old taken_new stepped
 
--- the sink took the answers to the lines before one, and a front of the answer to that one, which
--- was run
-pub record IsCut (files : FileMap) (lines : List Line) (first now : World)
+-- a line stopped, and those before it were run
+pub record IsStop (given : Option FileMap) (lines : List Line) (first now : World)
     (taken_old taken_new : Option (List ℕ)) (stepped : ℕ) : Type 0 where
   pub before : List Line
   pub line : Line
   pub after : List Line
   pub whole : lines ≡ before ++ line ∷ after
+  pub ran : (files : FileMap) → StandsFor given files (fetches files first before)
+      → RanToFetch files before line first now taken_old taken_new stepped
+
+-- lines were run and the one behind them too, and of its answer a front was taken
+pub record RanToCut (files : FileMap) (before : List Line) (line : Line) (first now : World)
+    (taken_old taken_new : Option (List ℕ)) (stepped : ℕ) : Type 0 where
   pub taken : TookFront (taken_with taken_old (answers files first before)) taken_new
       (answer files (world_after files first before) line.command).text
   pub world : now ≡ world_after files first (before ++ line ∷ [])
   pub work : work_after files first (before ++ line ∷ []) ≤ stepped
+
+-- the answer to a line was cut short
+pub record IsCut (given : Option FileMap) (lines : List Line) (first now : World)
+    (taken_old taken_new : Option (List ℕ)) (stepped : ℕ) : Type 0 where
+  pub before : List Line
+  pub line : Line
+  pub after : List Line
+  pub whole : lines ≡ before ++ line ∷ after
+  pub ran : (files : FileMap) → StandsFor given files (fetches files first (before ++ line ∷ []))
+      → RanToCut files before line first now taken_old taken_new stepped

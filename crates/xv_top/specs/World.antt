@@ -19,8 +19,7 @@ pub record LiveGuest : Type 0 where
   pub machine : Machine
 
 -- pool is the number of frames that guests may take, area what is reserved of host memory, turns
--- the
--- number of the turns so far; guests stand in order of creation
+-- the number of the turns so far; guests stand in order of creation
 pub record World : Type 0 where
   pub pool : ℕ
   pub area : Span

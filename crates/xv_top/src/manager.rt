@@ -50,6 +50,7 @@ pub struct Manager {
 impl Manager {
     ghost use Rattle.xv_top.specs.Answer.{Answer, says, where_there, where_reset};
     ghost use Rattle.xv_top.specs.Commands.{answer, is_fetching, is_loadable};
+    ghost use Rattle.xv_top.specs.Files.{StandsFor};
     ghost use Rattle.xv_top.specs.World as worlds;
     ghost use Rattle.std.specs.Prelude.{replicate};
     ghost use Rattle.xv_hart.specs.Machine.{area_of};
@@ -157,11 +158,13 @@ impl Manager {
         requires fit { IsFit machine.old }
         requires few { taken_by machine.old.hart < 2 ^ 61 }
 
-        ensures answer { OnOk result ((told : FileMap) → F.map files.old ≡ Some told →
+        ensures answer { OnOk result ((told : FileMap) → StandsFor (F.map files.old) told
+            (is_fetching (world_of self.old machine.old.mem) line.now.command) →
             Gives (answer told (world_of self.old machine.old.mem) line.now.command)
             printer.new (world_of self.new machine.new.mem)
             (taken_by machine.old.hart) (taken_by machine.new.hart)) }
-        ensures keeps { OnOk result ((told : FileMap) → F.map files.old ≡ Some told →
+        ensures keeps { OnOk result ((told : FileMap) → StandsFor (F.map files.old) told
+            (is_fetching (world_of self.old machine.old.mem) line.now.command) →
             Keeps (answer told (world_of self.old machine.old.mem) line.now.command)
             self.old machine.old.mem machine.new.mem) }
         ensures stopped { OnErr result

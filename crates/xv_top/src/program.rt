@@ -1,6 +1,6 @@
 //! The program's call: from the script's bytes to the transcript's bytes.
 ghost use Rattle.std.specs.Prelude.{◌≡◌, ◌≢◌, ◌↔◌, ◌⊎◌, ◌+◌, ◌-◌, ◌*◌, ◌^◌, ◌<◌, ◌≤◌, ℕ, List, []};
-ghost use Rattle.std.specs.Prelude.{length, replicate, map, Some, None, IfSome, IfOk, OnOk, OnErr};
+ghost use Rattle.std.specs.Prelude.{length, replicate, map, None, IfSome, IfOk, OnOk, OnErr};
 ghost use Rattle.std.specs.Prelude.{IsErrOf, IsErr, IsOk};
 ghost use Rattle.std.specs.List.{All};
 ghost use Rattle.std.specs.String.{string_bytes};
@@ -14,7 +14,9 @@ ghost use Rattle.xv_script.specs.Script.{commands};
 ghost use Rattle.xv_top.specs.Boot.{AreRight, ReadsAtMost, IsServed, IsRun, IsNoScript, IsRefused};
 ghost use Rattle.xv_top.specs.Boot.{IsStopped, IsStoppedIn, IsCutShort, IsCutIn, IsCutRefusal};
 ghost use Rattle.xv_top.specs.Boot.{IsStatus, most_read};
+ghost use Rattle.xv_top.specs.Files.{StandsFor};
 ghost use Rattle.xv_top.specs.Run.{HaveRun, IsCut, IsStop};
+ghost use Rattle.xv_top.specs.Transcript.{fetches};
 ghost use Rattle.xv_top.specs.Layout.{memory_size, HasMib};
 ghost use Rattle.xv_top.specs.Manager.{world_of, IsSound};
 ghost use Rattle.xv_top.specs.Texts.{script_text};
@@ -73,9 +75,9 @@ pub fn boot<S: Source, K: Sink, F: Files>(
     ensures usage_machine { result ≡ 2 → machine.new ≡ machine.old }
 
     // The headline: what was written is the transcript, in which each guest is a lone machine.
-    ensures run { result ≡ 0 → (told : FileMap) → F.map files.old ≡ Some told →
-        IsRun MEM_MIB told (S.left source.old) (S.left source.new)
-        (K.taken sink.old) (K.taken sink.new) machine.new }
+    // Files that tell nothing do where no line comes to a fetch.
+    ensures run { result ≡ 0 → IsRun MEM_MIB (F.map files.old) (S.left source.old)
+        (S.left source.new) (K.taken sink.old) (K.taken sink.new) machine.new }
 
     // A refused script has one line.
     ensures refused { result ≡ 3 → IsRefused (S.left source.old) (S.left source.new)
@@ -85,17 +87,14 @@ pub fn boot<S: Source, K: Sink, F: Files>(
     ensures read_fault { result ≡ 4 → Rose (S.faults source.old) (S.faults source.new) }
     ensures read_fault_sink { result ≡ 4 → sink.new ≡ sink.old }
     ensures write_fault { result ≡ 5 → Rose (K.faults sink.old) (K.faults sink.new) }
-    ensures write_fault_sink { result ≡ 5 → (told : FileMap) → F.map files.old ≡ Some told →
-        IsCutShort MEM_MIB told (S.left source.old) (K.taken sink.old) (K.taken sink.new)
-        machine.new }
+    ensures write_fault_sink { result ≡ 5 → IsCutShort MEM_MIB (F.map files.old)
+        (S.left source.old) (K.taken sink.old) (K.taken sink.new) machine.new }
     ensures file_fault { result ≡ 6 → Rose (F.faults files.old) (F.faults files.new) }
-    ensures file_fault_sink { result ≡ 6 → (told : FileMap) → F.map files.old ≡ Some told →
-        IsStopped MEM_MIB told (S.left source.old) (K.taken sink.old) (K.taken sink.new)
-        machine.new }
+    ensures file_fault_sink { result ≡ 6 → IsStopped MEM_MIB (F.map files.old)
+        (S.left source.old) (K.taken sink.old) (K.taken sink.new) machine.new }
     ensures memory_sink { result ≡ 7 → (sink.new ≡ sink.old)
-        ⊎ ((told : FileMap) → F.map files.old ≡ Some told →
-        IsStopped MEM_MIB told (S.left source.old) (K.taken sink.old) (K.taken sink.new)
-        machine.new) }
+        ⊎ (IsStopped MEM_MIB (F.map files.old) (S.left source.old) (K.taken sink.old)
+        (K.taken sink.new) machine.new) }
 
     // Right words, a script in the grammar, and no fault: every line is run, or memory is wanting.
     ensures complete { AreRight (map (λ word. string_bytes word) words.now) →
@@ -136,9 +135,8 @@ fn serve<S: Source, K: Sink, F: Files>(
     requires bare { IsBare machine.old }
     requires least { 8 ≤ mib }
     requires most { mib ≤ 512 }
-    ensures run { (told : FileMap) → F.map files.old ≡ Some told → OnOk result
-        (IsRun mib told (S.left source.old) (S.left source.new)
-        (K.taken sink.old) (K.taken sink.new) machine.new) }
+    ensures run { OnOk result (IsRun mib (F.map files.old) (S.left source.old)
+        (S.left source.new) (K.taken sink.old) (K.taken sink.new) machine.new) }
     ensures refused { IsErrOf result Stop.Refused → IsRefused (S.left source.old)
         (S.left source.new) (K.taken sink.old) (K.taken sink.new) }
     ensures read_fault { IsErrOf result Stop.ReadFault →
@@ -146,14 +144,13 @@ fn serve<S: Source, K: Sink, F: Files>(
     ensures read_fault_sink { IsErrOf result Stop.ReadFault → sink.new ≡ sink.old }
     ensures write_fault { IsErrOf result Stop.WriteFault →
         Rose (K.faults sink.old) (K.faults sink.new) }
-    ensures cut { (told : FileMap) → F.map files.old ≡ Some told →
-        IsErrOf result Stop.WriteFault → IsCutShort mib told (S.left source.old)
-        (K.taken sink.old) (K.taken sink.new) machine.new }
+    ensures cut { IsErrOf result Stop.WriteFault → IsCutShort mib (F.map files.old)
+        (S.left source.old) (K.taken sink.old) (K.taken sink.new) machine.new }
     ensures file_fault { IsErrOf result (Stop.InLine LineStop.FileFault) →
         Rose (F.faults files.old) (F.faults files.new) }
-    ensures stopped { (told : FileMap) (stop : LineStop) → F.map files.old ≡ Some told →
-        IsErrOf result (Stop.InLine stop) → IsStopped mib told (S.left source.old)
-        (K.taken sink.old) (K.taken sink.new) machine.new }
+    ensures stopped { (stop : LineStop) → IsErrOf result (Stop.InLine stop) →
+        IsStopped mib (F.map files.old) (S.left source.old) (K.taken sink.old)
+        (K.taken sink.new) machine.new }
     ensures memory_sink { IsErrOf result Stop.NoMemory → sink.new ≡ sink.old }
     ensures within { ReadsAtMost most_read (S.left source.old) (S.left source.new) }
     ensures source_later { S.faults source.old ≤ S.faults source.new }
@@ -188,20 +185,20 @@ fn run_script<K: Sink, F: Files>(
     requires zeros { machine.old.mem ≡ replicate (length machine.old.mem) 0 }
     requires taken { taken_by machine.old.hart ≡ 0 }
     requires fit { IsFit machine.old }
-    ensures served { (mib : ℕ) (told : FileMap) → length machine.old.mem ≡ memory_size mib →
-        machine.old.area ≡ area_of mib 0 → F.map files.old ≡ Some told → OnOk result
-        (IsServed mib told text.now (K.taken sink.old) (K.taken sink.new) machine.new) }
+    ensures served { (mib : ℕ) → length machine.old.mem ≡ memory_size mib →
+        machine.old.area ≡ area_of mib 0 → OnOk result (IsServed mib (F.map files.old)
+        text.now (K.taken sink.old) (K.taken sink.new) machine.new) }
     ensures refused { IsErrOf result Stop.Refused →
         IsNoScript text.now (K.taken sink.old) (K.taken sink.new) }
-    ensures cut { (mib : ℕ) (told : FileMap) → length machine.old.mem ≡ memory_size mib →
-        machine.old.area ≡ area_of mib 0 → F.map files.old ≡ Some told →
-        IsErrOf result Stop.WriteFault →
-        IsCutIn mib told text.now (K.taken sink.old) (K.taken sink.new) machine.new }
+    ensures cut { (mib : ℕ) → length machine.old.mem ≡ memory_size mib →
+        machine.old.area ≡ area_of mib 0 → IsErrOf result Stop.WriteFault →
+        IsCutIn mib (F.map files.old) text.now (K.taken sink.old) (K.taken sink.new)
+        machine.new }
     ensures cause { IsErrOf result Stop.WriteFault → Rose (K.faults sink.old) (K.faults sink.new) }
-    ensures stopped { (mib : ℕ) (told : FileMap) (stop : LineStop) →
-        length machine.old.mem ≡ memory_size mib → machine.old.area ≡ area_of mib 0 →
-        F.map files.old ≡ Some told → IsErrOf result (Stop.InLine stop) →
-        IsStoppedIn mib told text.now (K.taken sink.old) (K.taken sink.new) machine.new }
+    ensures stopped { (mib : ℕ) (stop : LineStop) → length machine.old.mem ≡ memory_size mib →
+        machine.old.area ≡ area_of mib 0 → IsErrOf result (Stop.InLine stop) →
+        IsStoppedIn mib (F.map files.old) text.now (K.taken sink.old) (K.taken sink.new)
+        machine.new }
     ensures file_fault { IsErrOf result (Stop.InLine LineStop.FileFault) →
         Rose (F.faults files.old) (F.faults files.new) }
     ensures memory { IsErrOf result Stop.NoMemory → sink.new ≡ sink.old }
@@ -273,18 +270,18 @@ fn run_counted<K: Sink, F: Files, L: Ledger>(
     requires taken { taken_by machine.old.hart ≡ 0 }
     requires fit { IsFit machine.old }
 
-    ensures ran { OnOk result ((told : FileMap) → F.map files.old ≡ Some told →
+    ensures ran { OnOk result ((told : FileMap) → StandsFor (F.map files.old) told
+        (fetches told (world_of manager.old machine.old.mem) lines.now) →
         HaveRun told lines.now (world_of manager.old machine.old.mem)
         (world_of manager.new machine.new.mem) (K.taken sink.old) (K.taken sink.new)
         (taken_by machine.new.hart)) }
-    ensures cut { IsErrOf result Stop.WriteFault → (told : FileMap) → F.map files.old ≡ Some told →
-        IsCut told lines.now (world_of manager.old machine.old.mem)
+    ensures cut { IsErrOf result Stop.WriteFault →
+        IsCut (F.map files.old) lines.now (world_of manager.old machine.old.mem)
         (world_of manager.new machine.new.mem) (K.taken sink.old) (K.taken sink.new)
         (taken_by machine.new.hart) }
     ensures cause { IsErrOf result Stop.WriteFault → Rose (K.faults sink.old) (K.faults sink.new) }
-    ensures stopped { (stop : LineStop) → IsErrOf result (Stop.InLine stop) → (told : FileMap) →
-        F.map files.old ≡ Some told →
-        IsStop told lines.now (world_of manager.old machine.old.mem)
+    ensures stopped { (stop : LineStop) → IsErrOf result (Stop.InLine stop) →
+        IsStop (F.map files.old) lines.now (world_of manager.old machine.old.mem)
         (world_of manager.new machine.new.mem) (K.taken sink.old) (K.taken sink.new)
         (taken_by machine.new.hart) }
     ensures file_fault { IsErrOf result (Stop.InLine LineStop.FileFault) →
@@ -320,18 +317,18 @@ fn run_all<K: Sink, F: Files, L: Ledger>(
     requires taken { taken_by machine.old.hart ≡ 0 }
     requires fit { IsFit machine.old }
 
-    ensures ran { OnOk result ((told : FileMap) → F.map files.old ≡ Some told →
+    ensures ran { OnOk result ((told : FileMap) → StandsFor (F.map files.old) told
+        (fetches told (world_of manager.old machine.old.mem) lines.now) →
         HaveRun told lines.now (world_of manager.old machine.old.mem)
         (world_of manager.new machine.new.mem) (K.taken sink.old) (K.taken sink.new)
         (taken_by machine.new.hart)) }
-    ensures cut { IsErrOf result Stop.WriteFault → (told : FileMap) → F.map files.old ≡ Some told →
-        IsCut told lines.now (world_of manager.old machine.old.mem)
+    ensures cut { IsErrOf result Stop.WriteFault →
+        IsCut (F.map files.old) lines.now (world_of manager.old machine.old.mem)
         (world_of manager.new machine.new.mem) (K.taken sink.old) (K.taken sink.new)
         (taken_by machine.new.hart) }
     ensures cause { IsErrOf result Stop.WriteFault → Rose (K.faults sink.old) (K.faults sink.new) }
-    ensures stopped { (stop : LineStop) → IsErrOf result (Stop.InLine stop) → (told : FileMap) →
-        F.map files.old ≡ Some told →
-        IsStop told lines.now (world_of manager.old machine.old.mem)
+    ensures stopped { (stop : LineStop) → IsErrOf result (Stop.InLine stop) →
+        IsStop (F.map files.old) lines.now (world_of manager.old machine.old.mem)
         (world_of manager.new machine.new.mem) (K.taken sink.old) (K.taken sink.new)
         (taken_by machine.new.hart) }
     ensures file_fault { IsErrOf result (Stop.InLine LineStop.FileFault) →

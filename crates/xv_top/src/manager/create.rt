@@ -29,6 +29,7 @@ impl Manager {
     ghost use Rattle.xv_tree.specs.Plan.{plan};
     ghost use Rattle.xv_top.specs.Births.{create_answer, tree_answer, plan_answer};
     ghost use Rattle.xv_top.specs.Commands.{is_fetching};
+    ghost use Rattle.xv_top.specs.Files.{StandsFor};
     ghost use Rattle.xv_top.specs.Manager.{world_of, Gives, IsSound};
 
     /// `guest create NAME FILE`
@@ -42,7 +43,8 @@ impl Manager {
     ) -> Result<(), LineStop>
         requires { printer.old ≡ [] }
         ensures answer { OnOk result ((told : FileMap) (bytes : List ℕ) (taken : ℕ) →
-            F.map files.old ≡ Some told → IsSound self.old bytes →
+            StandsFor (F.map files.old) told (is_fetching (world_of self.old bytes)
+            (command.Create name.now file.now)) → IsSound self.old bytes →
             Gives (create_answer told (world_of self.old bytes) name.now file.now)
             printer.new (world_of self.new bytes) taken taken) }
         ensures stopped { OnErr result (self.new ≡ self.old) }

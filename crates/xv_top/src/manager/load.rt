@@ -23,6 +23,7 @@ impl Manager {
     ghost use Rattle.xv_script.specs.declared.command.Command.TheVariants as command;
     ghost use Rattle.xv_top.specs.Commands.{is_fetching};
     ghost use Rattle.xv_top.specs.Contents.{load_bytes, load_guest};
+    ghost use Rattle.xv_top.specs.Files.{StandsFor};
     ghost use Rattle.xv_top.specs.Manager.{live_guest, world_of, Gives, Keeps, IsSound};
     ghost use Rattle.xv_top.specs.World.{guest_named};
 
@@ -39,11 +40,15 @@ impl Manager {
     ) -> Result<(), LineStop>
         requires empty { printer.old ≡ [] }
         requires sound { IsSound self.now machine.old.mem }
-        ensures answer { OnOk result ((told : FileMap) (taken : ℕ) → F.map files.old ≡ Some told →
+        ensures answer { OnOk result ((told : FileMap) (taken : ℕ) →
+            StandsFor (F.map files.old) told (is_fetching (world_of self.now machine.old.mem)
+            (command.Load name.now gpa file.now)) →
             Gives (load_guest told (world_of self.now machine.old.mem) name.now gpa file.now
             (guest_named name.now (world_of self.now machine.old.mem)))
             printer.new (world_of self.now machine.new.mem) taken taken) }
-        ensures keeps { OnOk result ((told : FileMap) → F.map files.old ≡ Some told →
+        ensures keeps { OnOk result ((told : FileMap) →
+            StandsFor (F.map files.old) told (is_fetching (world_of self.now machine.old.mem)
+            (command.Load name.now gpa file.now)) →
             Keeps (load_guest told (world_of self.now machine.old.mem) name.now gpa file.now
             (guest_named name.now (world_of self.now machine.old.mem)))
             self.now machine.old.mem machine.new.mem) }

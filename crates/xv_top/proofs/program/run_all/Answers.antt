@@ -1,8 +1,9 @@
-use Rattle.std.proofs.Common.{◌∙◌, [], refl, sym, ap, subst, arith}
+use Rattle.std.proofs.Common.{◌∙◌, ◌+◌, [], drop, take, refl, sym, ap, subst, arith}
 use Rattle.xv_hart.specs.Hart.{taken_by}
 use Rattle.xv_top.specs.Manager.{world_of}
 use Rattle.xv_top.specs.Run.{HaveRun}
-use Rattle.xv_top.proofs.FoldLemmas.{run_none, run_more, run_cut, run_stops}
+use Rattle.xv_top.proofs.FetchLemmas.{stands_also, stands_behind, stands_before, stands_at}
+use Rattle.xv_top.proofs.FoldLemmas.{run_none, run_more, run_cut, run_stops, whole}
 use Rattle.xv_top.proofs.program.run_all.Goals as goal
 
 pub loop-line-init : goal.loop-line-init
@@ -25,17 +26,24 @@ loop-line-init g c =
 pub loop-line-preserved : goal.loop-line-preserved
 loop-line-preserved g c =
     let inv = c.loop-line.invariant in
+    let ls = c.args.lines.now in
+    let at = c.loop-line.line-index in
+    let l = c.line-item.result in
     let first = world_of c.args.manager.now c.args.machine.now.mem in
     let now = world_of c.loop-line.manager c.loop-line.machine.mem in
     let after = world_of c.apply.new.self c.apply.new.machine.mem in
     record {
-      run = λ told is.
-          let gives = c.in-Ok.ensures.answer told (inv.map ∙ is) in
-          run_more told c.args.lines.now c.loop-line.line-index c.loop-line-test.true
-          c.line-item.result c.line-item.is first now after (g.K.Sink.taken c.args.sink.now)
+      run = λ told all.
+          let is = stands_behind told ls at c.loop-line-test.true l c.line-item.is first all in
+          let run = inv.run told
+          (stands_before told ls at c.loop-line-test.true l c.line-item.is first is) in
+          let gives = c.in-Ok.ensures.answer told (stands_also inv.map
+          (stands_at told ls at c.loop-line-test.true l c.line-item.is first now run.world is)) in
+          run_more told ls at c.loop-line-test.true
+          l c.line-item.is first now after (g.K.Sink.taken c.args.sink.now)
           (g.K.Sink.taken c.loop-line.sink) (g.K.Sink.taken c.put.new.self)
           (taken_by c.loop-line.machine.hart) (taken_by c.apply.new.machine.hart)
-          (inv.run told is) c.bytes.result.now (c.bytes.ensures.printed ∙ gives.text)
+          run c.bytes.result.now (c.bytes.ensures.printed ∙ gives.text)
           gives.world gives.work c.in-Ok-put.ensures.appended;
       sound = c.apply.ensures.sound;
       fit = c.apply.ensures.fit;
@@ -48,30 +56,52 @@ loop-line-preserved g c =
     }
 
 pub returns-in-Err-clause-stopped : goal.returns-in-Err-clause-stopped
-returns-in-Err-clause-stopped g c stop ended told is =
+returns-in-Err-clause-stopped g c stop ended =
     let inv = c.loop-line.invariant in
     let stopped = c.in-Err.ensures.stopped in
+    let ls = c.args.lines.now in
+    let at = c.loop-line.line-index in
+    let l = c.line-item.result in
     let first = world_of c.args.manager.now c.args.machine.now.mem in
     let now = world_of c.loop-line.manager c.loop-line.machine.mem in
     let after = world_of c.apply.new.self c.apply.new.machine.mem in
-    run_stops told c.args.lines.now c.loop-line.line-index c.loop-line-test.true
-    c.line-item.result c.line-item.is first now after (g.K.Sink.taken c.args.sink.now)
-    (g.K.Sink.taken c.loop-line.sink) (g.K.Sink.taken c.loop-line.sink)
-    (taken_by c.loop-line.machine.hart) (taken_by c.apply.new.machine.hart)
-    (inv.run told is) c.in-Err.ensures.fetching
-    (ap (λ m. world_of m c.apply.new.machine.mem) stopped.manager
-    ∙ ap (world_of c.loop-line.manager) stopped.memory) stopped.taken refl
+    record {
+      before = take at ls;
+      line = l;
+      after = drop (at + 1) ls;
+      whole = whole ls at c.loop-line-test.true l c.line-item.is;
+      ran = λ told is. run_stops told ls at c.loop-line-test.true
+          l c.line-item.is first now after (g.K.Sink.taken c.args.sink.now)
+          (g.K.Sink.taken c.loop-line.sink) (g.K.Sink.taken c.loop-line.sink)
+          (taken_by c.loop-line.machine.hart) (taken_by c.apply.new.machine.hart)
+          (inv.run told is) c.in-Err.ensures.fetching
+          (ap (λ m. world_of m c.apply.new.machine.mem) stopped.manager
+          ∙ ap (world_of c.loop-line.manager) stopped.memory) stopped.taken refl;
+    }
 
 pub returns-in-Err-put-clause-cut : goal.returns-in-Err-put-clause-cut
-returns-in-Err-put-clause-cut g c ended told is =
+returns-in-Err-put-clause-cut g c ended =
     let inv = c.loop-line.invariant in
-    let gives = c.in-Ok.ensures.answer told (inv.map ∙ is) in
+    let ls = c.args.lines.now in
+    let at = c.loop-line.line-index in
+    let l = c.line-item.result in
     let first = world_of c.args.manager.now c.args.machine.now.mem in
     let now = world_of c.loop-line.manager c.loop-line.machine.mem in
     let after = world_of c.apply.new.self c.apply.new.machine.mem in
-    run_cut told c.args.lines.now c.loop-line.line-index c.loop-line-test.true
-    c.line-item.result c.line-item.is first now after (g.K.Sink.taken c.args.sink.now)
-    (g.K.Sink.taken c.loop-line.sink) (g.K.Sink.taken c.put.new.self)
-    (taken_by c.loop-line.machine.hart) (taken_by c.apply.new.machine.hart)
-    (inv.run told is) c.bytes.result.now (c.bytes.ensures.printed ∙ gives.text)
-    gives.world gives.work c.in-Err-put.ensures.front
+    record {
+      before = take at ls;
+      line = l;
+      after = drop (at + 1) ls;
+      whole = whole ls at c.loop-line-test.true l c.line-item.is;
+      ran = λ told is.
+          let run = inv.run told
+          (stands_before told ls at c.loop-line-test.true l c.line-item.is first is) in
+          let gives = c.in-Ok.ensures.answer told (stands_also inv.map
+          (stands_at told ls at c.loop-line-test.true l c.line-item.is first now run.world is)) in
+          run_cut told ls at c.loop-line-test.true
+          l c.line-item.is first now after (g.K.Sink.taken c.args.sink.now)
+          (g.K.Sink.taken c.loop-line.sink) (g.K.Sink.taken c.put.new.self)
+          (taken_by c.loop-line.machine.hart) (taken_by c.apply.new.machine.hart)
+          run c.bytes.result.now (c.bytes.ensures.printed ∙ gives.text)
+          gives.world gives.work c.in-Err-put.ensures.front;
+    }

@@ -5,32 +5,35 @@ use Rattle.xv_top.proofs.BootLemmas.{served_is, stop_is, cut_line_is}
 use Rattle.xv_top.proofs.program.run_script.Goals as goal
 
 pub returns-clause-served : goal.returns-clause-served
-returns-clause-served g c mib told size area is =
+returns-clause-served g c mib size area =
     let mem = c.args.machine.now.mem in
     on_ok_weaker c.run_counted.result
-    (λ ran. served_is mib told c.args.text.now c.in-Ok.lines.items c.deref.result.now
+    (λ ran. served_is mib (g.F.Files.map c.args.files.now)
+    c.args.text.now c.in-Ok.lines.items c.deref.result.now
     (world_of c.new-manager.result mem) c.in-Ok.ensures.exact c.deref.ensures.value
     (c.new-manager.ensures.world mib mem size area)
     (g.K.Sink.taken c.args.sink.now) (g.K.Sink.taken c.run_counted.new.sink) c.args.machine.now
     c.run_counted.new.machine c.run_counted.new.manager (c.run_counted.ensures.size ∙ size)
-    (c.run_counted.ensures.area ∙ area) (ran told is)) c.run_counted.ensures.ran
+    (c.run_counted.ensures.area ∙ area) ran) c.run_counted.ensures.ran
 
 pub returns-clause-cut : goal.returns-clause-cut
-returns-clause-cut g c mib told size area is ended =
+returns-clause-cut g c mib size area ended =
     let mem = c.args.machine.now.mem in
-    cut_line_is mib told c.args.text.now c.in-Ok.lines.items c.deref.result.now
+    cut_line_is mib (g.F.Files.map c.args.files.now)
+    c.args.text.now c.in-Ok.lines.items c.deref.result.now
     (world_of c.new-manager.result mem) c.in-Ok.ensures.exact c.deref.ensures.value
     (c.new-manager.ensures.world mib mem size area)
     (g.K.Sink.taken c.args.sink.now) (g.K.Sink.taken c.run_counted.new.sink) c.args.machine.now
     c.run_counted.new.machine c.run_counted.new.manager (c.run_counted.ensures.size ∙ size)
-    (c.run_counted.ensures.area ∙ area) (c.run_counted.ensures.cut ended told is)
+    (c.run_counted.ensures.area ∙ area) (c.run_counted.ensures.cut ended)
 
 pub returns-clause-stopped : goal.returns-clause-stopped
-returns-clause-stopped g c mib told stop size area is ended =
+returns-clause-stopped g c mib stop size area ended =
     let mem = c.args.machine.now.mem in
-    stop_is mib told c.args.text.now c.in-Ok.lines.items c.deref.result.now
+    stop_is mib (g.F.Files.map c.args.files.now)
+    c.args.text.now c.in-Ok.lines.items c.deref.result.now
     (world_of c.new-manager.result mem) c.in-Ok.ensures.exact c.deref.ensures.value
     (c.new-manager.ensures.world mib mem size area)
     (g.K.Sink.taken c.args.sink.now) (g.K.Sink.taken c.run_counted.new.sink) c.args.machine.now
     c.run_counted.new.machine c.run_counted.new.manager (c.run_counted.ensures.size ∙ size)
-    (c.run_counted.ensures.area ∙ area) (c.run_counted.ensures.stopped stop ended told is)
+    (c.run_counted.ensures.area ∙ area) (c.run_counted.ensures.stopped stop ended)

@@ -5,6 +5,7 @@ use Rattle.xv_top.specs.Contents.{poke_guest}
 use Rattle.xv_top.specs.Manager.{world_of}
 use Rattle.xv_top.specs.Texts.{refused_text}
 use Rattle.xv_top.specs.World.{guest_named}
+use Rattle.xv_top.proofs.FetchLemmas.{stands_command}
 use Rattle.xv_top.proofs.ManagerLemmas.{gives_by, gives_later, gives_text, unbuilt_is}
 use Rattle.xv_top.proofs.ManagerLemmas.{keeps_by, create_is, flat_is, load_is, poke_is}
 use Rattle.xv_top.proofs.ManagerLemmas.{kick_is, regs_is, mem_is, digest_is, run_is}
@@ -14,27 +15,32 @@ pub returns-in-Create-clause-answer : goal.returns-in-Create-clause-answer
 returns-in-Create-clause-answer g c =
     let bytes = c.args.machine.now.mem in
     on_ok_weaker c.create.result
-    (λ answer told is. gives_by _ _
-    (create_is told (world_of c.args.self.now bytes) c.args.line.now.command _ _ c.in-Create.is)
-    (answer told bytes (taken_by c.args.machine.now.hart) is c.requires.sound))
+    (λ answer told is.
+    let w = world_of c.args.self.now bytes in
+    gives_by _ _ (create_is told w c.args.line.now.command _ _ c.in-Create.is)
+    (answer told bytes (taken_by c.args.machine.now.hart)
+    (stands_command w c.in-Create.is is) c.requires.sound))
     c.create.ensures.answer
 
 pub returns-in-Load-clause-answer : goal.returns-in-Load-clause-answer
 returns-in-Load-clause-answer g c =
     let bytes = c.args.machine.now.mem in
     on_ok_weaker c.load.result
-    (λ answer told is. gives_by _ _
-    (load_is told (world_of c.args.self.now bytes) c.args.line.now.command _ _ _ c.in-Load.is)
+    (λ answer told is.
+    let w = world_of c.args.self.now bytes in
+    gives_by _ _ (load_is told w c.args.line.now.command _ _ _ c.in-Load.is)
     (gives_later _ (ap taken_by c.load.ensures.hart)
-    (answer told (taken_by c.args.machine.now.hart) is))) c.load.ensures.answer
+    (answer told (taken_by c.args.machine.now.hart) (stands_command w c.in-Load.is is))))
+    c.load.ensures.answer
 
 pub returns-in-Load-clause-keeps : goal.returns-in-Load-clause-keeps
 returns-in-Load-clause-keeps g c =
     let bytes = c.args.machine.now.mem in
     on_ok_weaker c.load.result
-    (λ keeps told is. keeps_by _ _
-    (load_is told (world_of c.args.self.now bytes) c.args.line.now.command _ _ _ c.in-Load.is)
-    (keeps told is)) c.load.ensures.keeps
+    (λ keeps told is.
+    let w = world_of c.args.self.now bytes in
+    keeps_by _ _ (load_is told w c.args.line.now.command _ _ _ c.in-Load.is)
+    (keeps told (stands_command w c.in-Load.is is))) c.load.ensures.keeps
 
 pub returns-in-Flat-clause-answer : goal.returns-in-Flat-clause-answer
 returns-in-Flat-clause-answer g c told is =

@@ -5,7 +5,8 @@ use Rattle.xv_top.specs.Births.{tree_answer}
 use Rattle.xv_top.specs.Answer.{Answer, with_file}
 use Rattle.xv_top.specs.Files.{file_of}
 use Rattle.xv_top.specs.Manager.{world_of}
-use Rattle.xv_top.proofs.ManagerLemmas.{gives_by, alone_fetches, some_at}
+use Rattle.xv_top.proofs.FetchLemmas.{told_at_fetch}
+use Rattle.xv_top.proofs.ManagerLemmas.{gives_by, gives_text, alone_fetches, some_at}
 use Rattle.xv_top.proofs.manager.Manager.create.Goals as goal
 
 pub returns-in-Ok-Some-clause-answer : goal.returns-in-Ok-Some-clause-answer
@@ -18,7 +19,9 @@ returns-in-Ok-Some-clause-answer g c =
     (c.if-not-is_alone.ensures.next refl bytes
     (with_file w 1048576 next (file_of told c.args.file.now))
     ∙ (some_at _ c.in-Ok-Some.field-0 c.in-Ok-Some.bytes c.in-Ok-Some.field-0-is
-    c.in-Ok-Some.ensures.bytes told w next is
+    c.in-Ok-Some.ensures.bytes told w next
+    (told_at_fetch is (alone_fetches c.args.self.now bytes c.args.name.now c.args.file.now
+    (c.if-not-is_alone.ensures.alone refl)))
     ∙ ap next (sym c.deref.ensures.value)))
     (answer bytes taken sound)) c.of_bytes.ensures.answer
 
@@ -32,3 +35,14 @@ pub returns-in-Err-clause-fetching : goal.returns-in-Err-clause-fetching
 returns-in-Err-clause-fetching g c bytes =
     alone_fetches c.args.self.now bytes c.args.name.now c.args.file.now
     (c.if-not-is_alone.ensures.alone refl)
+
+pub returns-in-Ok-None-clause-answer : goal.returns-in-Ok-None-clause-answer
+returns-in-Ok-None-clause-answer g c told bytes taken is sound =
+    let w = world_of c.args.self.now bytes in
+    let next : List ℕ → Answer = λ file. tree_answer w c.args.name.now (tree file) in
+    gives_text _
+    (c.if-not-is_alone.ensures.next refl bytes
+    (with_file w 1048576 next (file_of told c.args.file.now))
+    ∙ c.in-Ok-None.ensures.refused c.in-Ok-None.field-0-is told w next
+    (told_at_fetch is (alone_fetches c.args.self.now bytes c.args.name.now c.args.file.now
+    (c.if-not-is_alone.ensures.alone refl)))) refl refl

@@ -1,7 +1,8 @@
-use Rattle.std.proofs.Common.{◌∙◌, ap, sym}
+use Rattle.std.proofs.Common.{◌∙◌, refl, ap, sym}
 use Rattle.xv_top.specs.Contents.{load_bytes, load_file}
 use Rattle.xv_top.specs.Manager.{live_guest, world_of}
-use Rattle.xv_top.proofs.ManagerLemmas.{gives_by, load_fetches, some_at}
+use Rattle.xv_top.proofs.FetchLemmas.{told_at_fetch}
+use Rattle.xv_top.proofs.ManagerLemmas.{gives_by, gives_text, keeps_by, load_fetches, some_at}
 use Rattle.xv_top.proofs.manager.Manager.load.Goals as goal
 
 pub returns-in-Ok-Some-clause-answer : goal.returns-in-Ok-Some-clause-answer
@@ -13,7 +14,9 @@ returns-in-Ok-Some-clause-answer g c told taken is =
     gives_by _ _
     (c.in-Some.ensures.next host (load_file told w name c.args.gpa c.args.file.now)
     ∙ (some_at _ c.in-Ok-Some.field-0 c.in-Ok-Some.bytes c.in-Ok-Some.field-0-is
-    c.in-Ok-Some.ensures.bytes told w (load_bytes w name c.args.gpa live) is
+    c.in-Ok-Some.ensures.bytes told w (load_bytes w name c.args.gpa live)
+    (told_at_fetch is (load_fetches w name c.args.gpa c.args.file.now
+    (c.in-Some.ensures.loadable host)))
     ∙ ap (load_bytes w name c.args.gpa live) (sym c.deref.ensures.value)))
     (c.load_bytes.ensures.answer taken)
 
@@ -22,3 +25,31 @@ returns-in-Err-clause-fetching g c =
     let host = c.args.machine.now.mem in
     load_fetches (world_of c.args.self.now host) c.args.name.now c.args.gpa c.args.file.now
     (c.in-Some.ensures.loadable host)
+
+pub returns-in-Ok-Some-clause-keeps : goal.returns-in-Ok-Some-clause-keeps
+returns-in-Ok-Some-clause-keeps g c told is =
+    let host = c.args.machine.now.mem in
+    let w = world_of c.args.self.now host in
+    let name = c.args.name.now in
+    let live = live_guest c.in-Some.guest host in
+    keeps_by _ _
+    (c.in-Some.ensures.next host (load_file told w name c.args.gpa c.args.file.now)
+    ∙ (some_at _ c.in-Ok-Some.field-0 c.in-Ok-Some.bytes c.in-Ok-Some.field-0-is
+    c.in-Ok-Some.ensures.bytes told w (load_bytes w name c.args.gpa live)
+    (told_at_fetch is (load_fetches w name c.args.gpa c.args.file.now
+    (c.in-Some.ensures.loadable host)))
+    ∙ ap (load_bytes w name c.args.gpa live) (sym c.deref.ensures.value)))
+    c.load_bytes.ensures.keeps
+
+pub returns-in-Ok-None-clause-answer : goal.returns-in-Ok-None-clause-answer
+returns-in-Ok-None-clause-answer g c told taken is =
+    let host = c.args.machine.now.mem in
+    let w = world_of c.args.self.now host in
+    let name = c.args.name.now in
+    let live = live_guest c.in-Some.guest host in
+    gives_text _
+    (c.in-Some.ensures.next host (load_file told w name c.args.gpa c.args.file.now)
+    ∙ c.in-Ok-None.ensures.refused c.in-Ok-None.field-0-is told w
+    (load_bytes w name c.args.gpa live)
+    (told_at_fetch is (load_fetches w name c.args.gpa c.args.file.now
+    (c.in-Some.ensures.loadable host)))) refl refl
