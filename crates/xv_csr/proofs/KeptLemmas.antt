@@ -1,5 +1,5 @@
 -- Every write, trap and return leaves registers that hold what a write of them would keep.
-use Rattle.std.proofs.Common.{◌≡◌, ℕ, ◌^◌, ◌-◌, Bool, true, false, not, Option, Some, None}
+use Rattle.std.proofs.Common.{◌≡◌, ℕ, ◌^◌, ◌-◌, ◌/◌, ◌⊎◌, Bool, true, false, not, Option, Some, None}
 use Rattle.std.proofs.Common.{unwrap_or, option_and_then, ◌∙◌, sym, refl, arith}
 use Rattle.std.specs.Int.RustNames.{bit_and, bit_or}
 use Rattle.std.proofs.lemmas.Bool.Decides.{nat_tests}
@@ -50,6 +50,11 @@ pub kept_satp-kept : (old value : ℕ) → kept_satp 0 old ≡ old
     → kept_satp 0 (kept_satp old value) ≡ kept_satp old value
 unfolding kept_satp
 kept_satp-kept old value kept = grind (arith, nat_tests)
+
+-- its MODE is Bare or Sv39
+pub satp_mode : (satp : ℕ) → kept_satp 0 satp ≡ satp → (satp / 2 ^ 60 ≡ 0) ⊎ (satp / 2 ^ 60 ≡ 8)
+unfolding kept_satp
+satp_mode satp kept = grind (arith, nat_tests)
 
 -- a bit that may change does
 with_bit-kept : (k : ℕ) (value : Bool) (status : ℕ) → bit_and (2 ^ k) 0xC0122 ≡ 2 ^ k

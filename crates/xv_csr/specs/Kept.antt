@@ -1,7 +1,7 @@
 -- What each supervisor CSR keeps of a value that is written to it (Privileged Architecture
 -- 20211203, section 4.1). A bit that isn't kept reads as 0, but for the read-only UXL of sstatus.
-use Rattle.std.specs.Prelude.{◌≡◌, ℕ, ◌+◌, ◌*◌, ◌/◌, ◌%◌, ◌^◌, ◌==◌, if◌then◌else◌, [], ◌∷◌}
-use Rattle.std.specs.Prelude.{bit_and}
+use Rattle.std.specs.Prelude.{◌≡◌, ℕ, ◌+◌, ◌*◌, ◌/◌, ◌%◌, ◌^◌, ◌==◌, ◌||◌, if◌then◌else◌, []}
+use Rattle.std.specs.Prelude.{◌∷◌, bit_and}
 use Rattle.xv_csr.specs.declared.SCsrs.{SCsrs}
 use Rattle.xv_base.specs.Bits.{mask}
 use Rattle.xv_csr.specs.Cause.{software_interrupt, timer_interrupt, external_interrupt}
@@ -34,10 +34,12 @@ kept_senvcfg value = bit_and value (mask (fiom_bit ∷ []))
 unfoldable pub kept_sepc : ℕ → ℕ
 kept_sepc value = value / instruction_alignment * instruction_alignment
 
--- satp (4.1.11): PPN 43:0 where MODE 63:60 is 0 (Bare). Any other MODE has no effect at all: Sv39,
--- 8, isn't supported yet
+-- satp (4.1.11): MODE 63:60 and PPN 43:0 where MODE is 0 (Bare) or 8 (Sv39). Any other MODE has no
+-- effect at all
 unfoldable pub kept_satp : ℕ → ℕ → ℕ
-kept_satp old value = if value / 2 ^ 60 == 0 then value % 2 ^ 44 else old
+kept_satp old value =
+    if value / 2 ^ 60 == 0 || value / 2 ^ 60 == 8
+    then value / 2 ^ 60 * 2 ^ 60 + value % 2 ^ 44 else old
 
 -- each register holds what a write of it would keep
 pub record IsKept (csrs : SCsrs) : Type 0 where

@@ -12,6 +12,11 @@ pub const INSTRUCTION_ALIGNMENT: u64 = 4;
 // the read-only UXL: 64 bits
 pub const UXL: u64 = 2 << 32;
 
+// SUM and MXR of sstatus (4.1.1)
+pub const SUM_BIT: u32 = 18;
+
+pub const MXR_BIT: u32 = 19;
+
 pub const TM_BIT: u32 = 1;
 
 const FIOM_BIT: u32 = 0;
@@ -19,7 +24,10 @@ const FIOM_BIT: u32 = 0;
 /// The mode of stvec in which interrupts have handlers of their own (4.1.2).
 pub const VECTORED: u64 = 1;
 
+// the modes of satp (table 4.3)
 const BARE: u64 = 0;
+
+const SV39: u64 = 8;
 
 #[tactic(auto, unfolding(crate::proofs::Literals::kept_flags))]
 pub fn kept_sstatus(value: u64) -> u64
@@ -73,5 +81,9 @@ pub fn kept_satp(old: u64, value: u64) -> u64
     ensures { result ≡ kept_satp old value }
 {
     let mode = value >> 60;
-    if mode == BARE { value % (1 << 44) } else { old }
+    if mode == BARE || mode == SV39 {
+        mode * (1 << 60) + value % (1 << 44)
+    } else {
+        old
+    }
 }

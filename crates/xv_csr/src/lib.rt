@@ -2,9 +2,9 @@
 //! section 4.1), the counter `time` (Unprivileged ISA 20191213, chapter 10), and the causes of
 //! traps. The definitions of trap entry, trap return and the choice of an interrupt stand here too.
 //!
-//! What of the standard is this project's profile: the ASID of satp reads 0 and its MODE is Bare,
-//! since Sv39 isn't built; the A and D bits of table entries are never set by the hart; `cycle` and
-//! `instret` are refused, so `scounteren` keeps TM alone; `senvcfg` keeps FIOM alone.
+//! What of the standard is this project's profile: the ASID of satp reads 0 and its MODE is Bare or
+//! Sv39; the A and D bits of table entries are never set by the hart; `cycle` and `instret` are
+//! refused, so `scounteren` keeps TM alone; `senvcfg` keeps FIOM alone.
 #![tactic(auto)]
 
 pub mod cause;
@@ -14,6 +14,8 @@ mod kept;
 mod tests;
 
 ghost use Rattle.std.specs.Prelude.{◌≡◌, false, is_some, unwrap_or};
+ghost use Rattle.xv_base.specs.Bits.{has_bit};
+ghost use Rattle.xv_csr.specs.Fields.{sum_bit, mxr_bit};
 ghost use Rattle.xv_csr.specs.Kept.{IsKept};
 ghost use Rattle.xv_csr.specs.Pending.{sip_of, pending};
 ghost use Rattle.xv_csr.specs.Reset.{reset_csrs};
@@ -24,7 +26,7 @@ use cause::{EXTERNAL_INTERRUPT, SOFTWARE_INTERRUPT, TIMER_INTERRUPT};
 pub use flags::{Interrupts, Sstatus};
 pub use kept::{INSTRUCTION_ALIGNMENT, VECTORED};
 use kept::{
-    TM_BIT, UXL, kept_satp, kept_scounteren, kept_senvcfg, kept_sepc, kept_sie, kept_sstatus,
+    MXR_BIT, SUM_BIT, TM_BIT, UXL, kept_satp, kept_scounteren, kept_senvcfg, kept_sepc, kept_sie, kept_sstatus,
     kept_stvec,
 };
 use xv_base::has_bit;
@@ -217,6 +219,20 @@ impl SCsrs {
             0
         };
         software + timer + external
+    }
+
+    /// SUM of sstatus: S may use the pages of U.
+    pub fn sum(&self) -> bool
+        ensures { result ≡ has_bit sum_bit self.now.sstatus }
+    {
+        has_bit(self.sstatus, SUM_BIT)
+    }
+
+    /// MXR of sstatus: what is executable may be loaded.
+    pub fn mxr(&self) -> bool
+        ensures { result ≡ has_bit mxr_bit self.now.sstatus }
+    {
+        has_bit(self.sstatus, MXR_BIT)
     }
 
     /// sip & sie: the interrupts that are pending and enabled, each at its bit.

@@ -77,7 +77,7 @@ const WRITES: [(u16, u64, u64); 9] = [
     (0x105, 0x8000_0007, 0x8000_0004),
     (0x141, 0x8000_0006, 0x8000_0004),
     (0x144, 0x220, 0),
-    (0x180, 0x8FFF_FFFF_FFFF_FFFF, 0),
+    (0x180, 0x8FFF_FFFF_FFFF_FFFF, 0x8000_0FFF_FFFF_FFFF),
     (0x180, 0x0FFF_FFFF_FFFF_FFFF, 0x0000_0FFF_FFFF_FFFF),
     (0x180, 0x9000_0000_0000_0001, 0),
     (0x180, 0x1000_0000_0000_0001, 0),
@@ -96,7 +96,6 @@ fn single_writes(rt: HostRuntime) -> Result<(), Fail> {
     }
     let mut csrs = SCsrs::reset();
     assert!(rt; csrs.write(0x180, false, 0x0000_0000_0008_0001));
-    assert!(rt; csrs.write(0x180, false, 0x8000_0000_0000_0002));
     assert!(rt; csrs.write(0x180, false, 0x9000_0000_0000_0003));
     assert_eq!(rt; csrs.satp, 0x0000_0000_0008_0001);
     Ok(())

@@ -2,7 +2,8 @@
 use Rattle.std.specs.Prelude.{ℕ, ◌≡◌, ◌+◌, ◌-◌, ◌%◌, ◌^◌, ◌<◌, ◌≤◌, ◌==◌, ◌&&◌, true, nat_le}
 use Rattle.std.specs.Prelude.{if◌then◌else◌, List, Option, Some, None, option_map}
 use Rattle.xv_mem.specs.Bytes.{word_at, put_word}
-use Rattle.xv_step.specs.Bus.{Bus}
+use Rattle.xv_pte.specs.Sv39.{Reader}
+use Rattle.xv_step.specs.Bus.{Bus, reader}
 use Rattle.xv_hart.specs.declared.window.Window.{Window}
 
 -- the host address of so many bytes at a guest physical address, where they lie wholly in the
@@ -21,6 +22,10 @@ window_bus w = record {
   put = λ bytes width at value. put_word width bytes at value;
   same = λ at other. at == other;
 }
+
+-- the words that the walks of the guest's page tables read
+abbrev pub words_of : Window → List ℕ → Reader
+words_of w bytes = reader (window_bus w) bytes
 
 -- the window lies in a memory of so many bytes, and its bounds are multiples of 8
 pub record IsWindowIn (bytes : ℕ) (w : Window) : Type 0 where

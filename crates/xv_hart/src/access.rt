@@ -3,23 +3,34 @@ ghost use Rattle.std.specs.Prelude.{◌≡◌, ℕ, ◌+◌, ◌-◌, ◌*◌, �
 ghost use Rattle.std.specs.Prelude.{List, length, IfOk, IfErr};
 ghost use Rattle.xv_isa.specs.Effects.{extended, low_bytes};
 ghost use Rattle.xv_mem.specs.Bytes.{word_at, put_word};
-ghost use Rattle.xv_step.specs.Outcome.{Ask, Outcome, misaligned};
+ghost use Rattle.xv_pte.specs.Sv39.{verdict};
+ghost use Rattle.xv_step.specs.Bus.{reader};
+ghost use Rattle.xv_step.specs.Outcome.{Ask, Outcome, misaligned, page_fault};
+ghost use Rattle.xv_step.specs.State.{view};
+ghost use Rattle.xv_sv39.specs.Translate.{verdict_of};
 ghost use Rattle.xv_step.specs.Memory.{accessed, translated};
 ghost use Rattle.xv_hart.specs.Action.{bytes_of};
 ghost use Rattle.xv_hart.specs.Memory.{bus_of, HasMemory};
 ghost use Rattle.xv_hart.specs.Step.{came, exit_of, state_of, IsLeftAs};
-ghost use Rattle.xv_hart.specs.Step.{guest_page_fault, IsWellFormed};
+ghost use Rattle.xv_hart.specs.Step.{guest_page_fault, fault_trap, IsWellFormed};
 
 use crate::action::Width;
 use crate::exit::{Exit, HTrap};
 use crate::regs::Regs;
+use crate::tables::translated;
 use std::sync::ledger::Ledger;
 use xv_csr::cause::{
-    INSTRUCTION_ADDRESS_MISALIGNED, INSTRUCTION_GUEST_PAGE_FAULT, LOAD_ADDRESS_MISALIGNED,
-    LOAD_GUEST_PAGE_FAULT, STORE_ADDRESS_MISALIGNED, STORE_GUEST_PAGE_FAULT,
+    INSTRUCTION_ADDRESS_MISALIGNED, INSTRUCTION_GUEST_PAGE_FAULT, INSTRUCTION_PAGE_FAULT,
+    LOAD_ADDRESS_MISALIGNED, LOAD_GUEST_PAGE_FAULT, LOAD_PAGE_FAULT, STORE_ADDRESS_MISALIGNED,
+    STORE_GUEST_PAGE_FAULT, STORE_PAGE_FAULT,
 };
 use xv_mem::{HostMem, Steps};
-use xv_pte::Kind3;
+use xv_pte::{Kind3, View};
+use xv_sv39::WalkFault;
+
+/// htinst of an access to an entry of a page table, of 64 bits: the pseudoinstruction of its load
+/// (Privileged Architecture 20211203, table 8.12).
+const ENTRY_READ: u64 = 0x3000;
 
 /// The number in the bytes at a host address, the lowest byte first.
 pub(crate) fn read<L: Ledger>(mem: &HostMem, width: Width, at: u64, steps: &mut Steps<L>) -> u64
@@ -127,54 +138,105 @@ fn misaligned(kind: Kind3) -> u64
     }
 }
 
+/// The cause of a page fault (Privileged Architecture 20211203, table 4.2).
+fn page_fault(kind: Kind3) -> u64
+    ensures { result ≡ page_fault kind }
+{
+    match kind {
+        Kind3::Fetch => INSTRUCTION_PAGE_FAULT,
+        Kind3::Load => LOAD_PAGE_FAULT,
+        Kind3::Store => STORE_PAGE_FAULT,
+    }
+}
+
 impl Regs {
-    /// The host address of an aligned access to memory, or the exit where it leads to none. While
-    /// MODE is Bare, a virtual address is a guest physical address.
-    pub(crate) fn reach(
+    /// The guest physical address of a virtual one, for an access of this kind.
+    fn translate<L: Ledger>(
         &self,
         mem: &HostMem,
         kind: Kind3,
-        width: Width,
         va: u64,
-    ) -> Result<u64, Exit>
+        steps: &mut Steps<L>,
+    ) -> Result<u64, WalkFault>
         requires formed { IsWellFormed self.now }
         requires memory { HasMemory self.now mem.now }
-        requires aligned { va % bytes_of width ≡ 0 }
-        ensures inside { IfOk result (λ at. at + bytes_of width ≤ length mem.now) }
-        ensures aligned { IfOk result (λ at. at % bytes_of width ≡ 0) }
-        ensures reaches { IfOk result (λ at.
-            (lacks : ℕ → Ask) (done : ℕ → Outcome (List ℕ) ℕ) →
-            translated (bus_of self.now) (state_of self.now mem.now) kind (bytes_of width) va
-            lacks done ≡ done at) }
-        ensures stops { IfErr result (λ exit.
-            (lacks : ℕ → Ask) (done : ℕ → Outcome (List ℕ) ℕ) →
-            IsLeftAs self.now.user kind va lacks →
-            came exit self.now mem.now ≡ exit_of self.now mem.now
-            (translated (bus_of self.now) (state_of self.now mem.now) kind (bytes_of width) va
-            lacks done)) }
+        ensures verdict { verdict_of result ≡ verdict (reader (bus_of self.now) mem.now)
+            (view (state_of self.now mem.now)) va kind }
+        ensures counted { steps.new ≤ steps.old + 3 }
     {
-        let _ = mem;
-        match self.window.host_of(width.bytes() as u64, va) {
-            Some(at) => Ok(at),
-            None => Err(Exit::Trap(HTrap {
-                cause: guest_page_fault(kind),
-                tval: va,
-                htval: va / 4,
-                htinst: 0,
-                word: 0,
-                user: self.user,
-            })),
-        }
+        let view = View {
+            satp: self.csrs.satp,
+            user: self.user,
+            sum: self.csrs.sum(),
+            mxr: self.csrs.mxr(),
+        };
+        translated(mem, self.window, &view, kind, va, steps)
     }
 
-    /// The host address of an access to memory, or the exit where it is misaligned, which is an
-    /// exception of the hart's own, or leads to none.
-    pub(crate) fn access(
+    /// A fault of the G stage, for an access at a virtual address.
+    fn guest_fault(&self, kind: Kind3, va: u64, gpa: u64, htinst: u64) -> Exit
+        ensures { result ≡ Exit.Trap (fault_trap self.now.user kind va gpa htinst) }
+    {
+        Exit::Trap(HTrap {
+            cause: guest_page_fault(kind),
+            tval: va,
+            htval: gpa / 4,
+            htinst,
+            word: 0,
+            user: self.user,
+        })
+    }
+
+    /// The host address of an aligned access to memory, or the exit where it leads to none.
+    pub(crate) fn reach<L: Ledger>(
         &mut self,
         mem: &HostMem,
         kind: Kind3,
         width: Width,
         va: u64,
+        steps: &mut Steps<L>,
+    ) -> Result<u64, Exit>
+        requires formed { IsWellFormed self.old }
+        requires memory { HasMemory self.old mem.now }
+        requires aligned { va % bytes_of width ≡ 0 }
+        ensures stays { IfOk result (λ _. self.new ≡ self.old) }
+        ensures inside { IfOk result (λ at. at + bytes_of width ≤ length mem.now) }
+        ensures aligned { IfOk result (λ at. at % bytes_of width ≡ 0) }
+        ensures reaches { IfOk result (λ at.
+            (lacks : ℕ → Ask) (done : ℕ → Outcome (List ℕ) ℕ) →
+            translated (bus_of self.old) (state_of self.old mem.now) kind (bytes_of width) va
+            lacks done ≡ done at) }
+        ensures stops { IfErr result (λ exit.
+            (lacks : ℕ → Ask) (done : ℕ → Outcome (List ℕ) ℕ) →
+            IsLeftAs self.old.user kind va lacks →
+            came exit self.new mem.now ≡ exit_of self.old mem.now
+            (translated (bus_of self.old) (state_of self.old mem.now) kind (bytes_of width) va
+            lacks done)) }
+        ensures formed { IsWellFormed self.new }
+        ensures counted { steps.new ≤ steps.old + 3 }
+    {
+        let gpa = match self.translate(mem, kind, va, steps) {
+            Ok(gpa) => gpa,
+            Err(WalkFault::Page) => return Err(self.trap(page_fault(kind), va)),
+            Err(WalkFault::Entry { gpa }) => {
+                return Err(self.guest_fault(kind, va, gpa, ENTRY_READ));
+            }
+        };
+        match self.window.host_of(width.bytes() as u64, gpa) {
+            Some(at) => Ok(at),
+            None => Err(self.guest_fault(kind, va, gpa, 0)),
+        }
+    }
+
+    /// The host address of an access to memory, or the exit where it is misaligned, which is an
+    /// exception of the hart's own, or leads to none.
+    pub(crate) fn access<L: Ledger>(
+        &mut self,
+        mem: &HostMem,
+        kind: Kind3,
+        width: Width,
+        va: u64,
+        steps: &mut Steps<L>,
     ) -> Result<u64, Exit>
         requires formed { IsWellFormed self.old }
         requires memory { HasMemory self.old mem.now }
@@ -192,10 +254,11 @@ impl Regs {
             (accessed (bus_of self.old) (state_of self.old mem.now) kind (bytes_of width) va
             lacks done)) }
         ensures formed { IsWellFormed self.new }
+        ensures counted { steps.new ≤ steps.old + 3 }
     {
         if va % width.bytes() as u64 != 0 {
             return Err(self.trap(misaligned(kind), va));
         }
-        self.reach(mem, kind, width, va)
+        self.reach(mem, kind, width, va, steps)
     }
 }

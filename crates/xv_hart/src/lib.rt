@@ -3,10 +3,10 @@
 //! by itself: the calls and waits of S, and accesses that lead to no memory.
 //!
 //! It reaches its guest's memory through one window, in the place of the page tables of a G stage,
-//! and its interrupt lines are set from outside, in the place of hvip. A guest's virtual addresses
-//! are its physical ones.
+//! and its interrupt lines are set from outside, in the place of hvip.
 //!
-//! Integer results are `xv_alu`'s, CSRs `xv_csr`'s, traps `xv_trap`'s and decoding `xv_isa`'s.
+//! Integer results are `xv_alu`'s, CSRs `xv_csr`'s, traps `xv_trap`'s, decoding `xv_isa`'s and the
+//! translation of a guest's virtual addresses `xv_sv39`'s.
 #![tactic(auto)]
 
 mod access;
@@ -19,6 +19,7 @@ mod memory;
 mod perform;
 mod regs;
 mod system;
+mod tables;
 #[cfg(test)]
 mod tests;
 mod trail;

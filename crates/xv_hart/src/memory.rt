@@ -40,9 +40,9 @@ impl Regs {
             (state_of self.old mem.now)
             (effects.Load (bytes_of width) signed va rd)) }
         ensures formed { IsWellFormed self.new }
-        ensures counted { steps.new ≤ steps.old + 1 }
+        ensures counted { steps.new ≤ steps.old + 4 }
     {
-        let at = match self.access(mem, Kind3::Load, width, va) {
+        let at = match self.access(mem, Kind3::Load, width, va, steps) {
             Ok(at) => at,
             Err(exit) => return exit,
         };
@@ -72,9 +72,9 @@ impl Regs {
             (effects.Store (bytes_of width) va value)) }
         ensures formed { IsWellFormed self.new }
         ensures size { length mem.new ≡ length mem.old }
-        ensures counted { steps.new ≤ steps.old + 1 }
+        ensures counted { steps.new ≤ steps.old + 4 }
     {
-        let at = match self.access(mem, Kind3::Store, width, va) {
+        let at = match self.access(mem, Kind3::Store, width, va, steps) {
             Ok(at) => at,
             Err(exit) => return exit,
         };
@@ -102,9 +102,9 @@ impl Regs {
             (state_of self.old mem.now)
             (effects.LoadReserved (bytes_of width) va rd)) }
         ensures formed { IsWellFormed self.new }
-        ensures counted { steps.new ≤ steps.old + 1 }
+        ensures counted { steps.new ≤ steps.old + 4 }
     {
-        let at = match self.access(mem, Kind3::Load, width, va) {
+        let at = match self.access(mem, Kind3::Load, width, va, steps) {
             Ok(at) => at,
             Err(exit) => return exit,
         };
@@ -141,9 +141,9 @@ impl Regs {
             (effects.StoreConditional (bytes_of width) va value rd)) }
         ensures formed { IsWellFormed self.new }
         ensures size { length mem.new ≡ length mem.old }
-        ensures counted { steps.new ≤ steps.old + 1 }
+        ensures counted { steps.new ≤ steps.old + 4 }
     {
-        let at = match self.access(mem, Kind3::Store, width, va) {
+        let at = match self.access(mem, Kind3::Store, width, va, steps) {
             Ok(at) => at,
             Err(exit) => return exit,
         };
@@ -193,9 +193,9 @@ impl Regs {
             (effects.Modify op (bytes_of width) va value rd)) }
         ensures formed { IsWellFormed self.new }
         ensures size { length mem.new ≡ length mem.old }
-        ensures counted { steps.new ≤ steps.old + 2 }
+        ensures counted { steps.new ≤ steps.old + 5 }
     {
-        let at = match self.access(mem, Kind3::Store, width, va) {
+        let at = match self.access(mem, Kind3::Store, width, va, steps) {
             Ok(at) => at,
             Err(exit) => return exit,
         };

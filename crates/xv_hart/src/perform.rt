@@ -26,12 +26,12 @@ impl Regs {
         ensures step { came result self.new mem.new ≡ hart_step self.old mem.old }
         ensures formed { IsWellFormed self.new }
         ensures size { length mem.new ≡ length mem.old }
-        ensures counted { steps.new ≤ steps.old + 3 }
+        ensures counted { steps.new ≤ steps.old + 9 }
     {
         if let Some(cause) = chosen(&self.csrs, self.user, self.lines) {
             return self.trap(cause, 0);
         }
-        let at = match self.reach(mem, Kind3::Fetch, Width::W4, self.pc) {
+        let at = match self.reach(mem, Kind3::Fetch, Width::W4, self.pc, steps) {
             Ok(at) => at,
             Err(exit) => return exit,
         };
@@ -49,7 +49,7 @@ impl Regs {
             (decode_of word)) }
         ensures formed { IsWellFormed self.new }
         ensures size { length mem.new ≡ length mem.old }
-        ensures counted { steps.new ≤ steps.old + 2 }
+        ensures counted { steps.new ≤ steps.old + 5 }
     {
         let Some(insn) = decode(word) else {
             return self.illegal(word);
@@ -77,7 +77,7 @@ impl Regs {
             (state_of self.old mem.old) (action_of action)) }
         ensures formed { IsWellFormed self.new }
         ensures size { length mem.new ≡ length mem.old }
-        ensures counted { steps.new ≤ steps.old + 2 }
+        ensures counted { steps.new ≤ steps.old + 5 }
     {
         match action {
             Action::Set { rd, value } => {

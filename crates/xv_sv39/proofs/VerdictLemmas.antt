@@ -1,14 +1,56 @@
 -- The three ways of a verdict: Bare, no canonical address, and a walk.
-use Rattle.std.proofs.Common.{◌≡◌, ℕ, true, false, cond, [], Err, refl, ap, ◌∙◌}
+use Rattle.std.proofs.Common.{◌≡◌, ℕ, zero, suc, ◌≤◌, Bool, true, false, cond, List, [], length, Option}
+use Rattle.std.proofs.Common.{Some, None, Err, refl, ap, ◌∙◌, arith}
 use Rattle.xv_pte.specs.declared.access.Kind3.{Kind3}
 use Rattle.xv_pte.specs.declared.access.View.{View}
-use Rattle.xv_pte.specs.Sv39.{Reader, Address, PageFault, verdict, end_verdict, path}
+use Rattle.xv_pte.specs.declared.entry.Kind.{Kind}
+use Rattle.xv_pte.specs.declared.entry.Kind.TheVariants.{Broken, Pointer, Leaf}
+use Rattle.xv_pte.specs.Entry.{kind_of}
+use Rattle.xv_pte.specs.Sv39.{Reader, Address, PageFault, Path, verdict, end_verdict, path}
+use Rattle.xv_pte.specs.Sv39.{through, read_entry, entry_address}
 use Rattle.xv_pte.specs.Sv39.{entry_addresses, is_bare, is_canonical, root_page}
 use Rattle.xv_sv39.specs.declared.tables.WalkFault.{WalkFault}
 use Rattle.xv_sv39.specs.declared.tables.WalkFault.TheVariants.{Page, Entry}
 use Rattle.xv_sv39.specs.Translate.{verdict_of, end_of}
 
+-- a walk reads at most one entry a level
+through_few : (on : ℕ → Path) (level below gpa entry : ℕ) (kind : Kind)
+    → ((page : ℕ) → length (on page).addresses ≤ below)
+    → length (through on level gpa entry kind).addresses ≤ suc below
+through_few on level below gpa entry Broken few = omega arith
+through_few on level below gpa entry (Pointer page) few = omega (arith, few page)
+through_few on level below gpa entry Leaf few = omega arith
+
+entry_few : (on : ℕ → Path) (level below gpa : ℕ) (entry : Option ℕ)
+    → ((page : ℕ) → length (on page).addresses ≤ below)
+    → length (read_entry on level gpa entry).addresses ≤ suc below
+entry_few on level below gpa None few = omega arith
+entry_few on level below gpa (Some entry) few =
+    through_few on level below gpa entry (kind_of entry) few
+
+path_few : (table : Reader) (va levels page : ℕ)
+    → length (path table va levels page).addresses ≤ levels
+unfolding path
+path_few table va zero page = omega arith
+path_few table va (suc level) page =
+    entry_few (path table va level) level level (entry_address page level va)
+    (table (entry_address page level va)) (path_few table va level)
+
 module _ (table : Reader) (v : View) (va : ℕ) where
+  few_by : (bare canonical : Bool)
+      → length (cond bare [] (cond canonical (path table va 3 (root_page v)).addresses [])) ≤ 3
+  few_by true canonical = omega arith
+  few_by false true = path_few table va 3 (root_page v)
+  few_by false false = omega arith
+
+  addresses_few : length (entry_addresses table v va) ≤ 3
+  unfolding entry_addresses
+  addresses_few = few_by (is_bare v) (is_canonical va)
+
+  pub few_at : (addresses : List ℕ) → addresses ≡ entry_addresses table v va
+      → length addresses ≤ 3
+  few_at addresses is = omega (arith, ap length is, addresses_few)
+
   pub bare_addresses : is_bare v ≡ true → entry_addresses table v va ≡ []
   unfolding entry_addresses
   bare_addresses bare =

@@ -1,5 +1,5 @@
 //! The walk of the tables, from level 2 down to level 0.
-ghost use Rattle.std.specs.Prelude.{◌≡◌, ◌<◌, ◌^◌, []};
+ghost use Rattle.std.specs.Prelude.{◌≡◌, ◌<◌, ◌%◌, ◌^◌, []};
 ghost use Rattle.xv_pte.specs.Sv39 as sv39;
 ghost use Rattle.xv_sv39.specs.Translate.{end_of, IsLeaf};
 
@@ -25,7 +25,7 @@ pub fn walk<R: Words>(reader: &mut R, root: u64, va: u64) -> Result<Leaf, WalkFa
     ensures addresses { R.addresses reader.new
         ≡ (sv39.path (R.table reader.old) va 3 root).addresses }
     ensures table { R.table reader.new ≡ R.table reader.old }
-    ensures rule { R.rule reader.old → R.rule reader.new }
+    ensures rule { (start : _) → R.rule start reader.old → R.rule start reader.new }
 {
     let mut page = root;
     let mut level = 3;
@@ -48,7 +48,8 @@ pub fn walk<R: Words>(reader: &mut R, root: u64, va: u64) -> Result<Leaf, WalkFa
 fn entry_address(page: u64, level: u32, va: u64) -> u64
     requires page { page < 2 ^ 44 }
     requires level { level < 3 }
-    ensures { result ≡ sv39.entry_address page level va }
+    ensures address { result ≡ sv39.entry_address page level va }
+    ensures aligned { result % 8 ≡ 0 }
 {
     page * 4096 + 8 * ((va >> page_bits(level)) % 512)
 }

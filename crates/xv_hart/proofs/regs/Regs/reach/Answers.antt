@@ -1,34 +1,20 @@
-use Rattle.std.proofs.Common.{◌/◌, ◌∙◌, sym, ap}
+use Rattle.std.proofs.Common.{sym, ap, ◌∙◌}
+use Rattle.xv_pte.proofs.Lacking.{verdict_offset}
+use Rattle.xv_pte.specs.Sv39.{verdict}
+use Rattle.xv_step.specs.Bus.{reader}
+use Rattle.xv_step.specs.State.{view}
+use Rattle.xv_hart.specs.Memory.{bus_of}
 use Rattle.xv_hart.specs.Window.{host_of}
-use Rattle.xv_hart.specs.Step.{came}
-use Rattle.xv_hart.specs.declared.exit.Exit.TheVariants.{Trap}
-use Rattle.xv_hart.specs.Action.{bytes_of}
-use Rattle.xv_hart.proofs.AccessLemmas.{reaches, stops}
+use Rattle.xv_hart.specs.Step.{state_of}
+use Rattle.xv_hart.proofs.AccessLemmas.{aligned_at}
 use Rattle.xv_hart.proofs.regs.Regs.reach.Goals as goal
 
-pub returns-in-Some-clause-reaches : goal.returns-in-Some-clause-reaches
-returns-in-Some-clause-reaches c lacks done =
+pub returns-in-Some-clause-aligned : goal.returns-in-Some-clause-aligned
+returns-in-Some-clause-aligned g c =
     let r = c.args.self.now in
-    let bytes = c.args.mem.now in
-    reaches r.window r bytes c.args.kind (bytes_of c.args.width) c.args.va lacks done
-    c.requires.formed.csrs c.in-Some.at
-    (ap (λ n. host_of r.window n c.args.va) (sym c.bytes.ensures)
+    aligned_at r.window c.args.width c.args.va c.in-Ok.gpa c.in-Some.at c.requires.memory.base
+    c.requires.memory.host
+    (verdict_offset (reader (bus_of r) c.args.mem.now) (view (state_of r c.args.mem.now)) c.args.va
+    c.args.kind c.in-Ok.gpa (sym c.in-Ok.ensures.verdict)) c.requires.aligned
+    (ap (λ n. host_of r.window n c.in-Ok.gpa) (sym c.bytes.ensures)
     ∙ (sym c.host_of.ensures ∙ c.in-Some.is))
-
-pub returns-in-None-clause-stops : goal.returns-in-None-clause-stops
-returns-in-None-clause-stops c lacks done trap =
-    let r = c.args.self.now in
-    let bytes = c.args.mem.now in
-    ap (λ cause. came
-    (Trap (record {
-      cause = cause;
-      tval = c.args.va;
-      htval = c.args.va / 4;
-      htinst = 0;
-      word = 0;
-      user = r.user;
-    })) r bytes) c.guest_page_fault.ensures
-    ∙ stops r.window r bytes c.args.kind (bytes_of c.args.width) c.args.va lacks done
-    c.requires.formed.csrs
-    (ap (λ n. host_of r.window n c.args.va) (sym c.bytes.ensures)
-    ∙ (sym c.host_of.ensures ∙ c.in-None.is)) trap

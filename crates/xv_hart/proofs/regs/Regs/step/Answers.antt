@@ -35,7 +35,9 @@ returns-clause-step g c =
     (◌∙◌ {b = exit_of r bytes
     (executed bus (inputs_of r) (state_of r bytes) c.read32-word.result
     (decode_of c.read32-word.result))}
-    c.execute.ensures.came
+    (c.execute.ensures.came ∙ ap (λ now. exit_of now bytes
+    (executed (bus_of now) (inputs_of now) (state_of now bytes) c.read32-word.result
+    (decode_of c.read32-word.result))) c.in-Ok.ensures.stays)
     (ap (λ word. exit_of r bytes
     (executed bus (inputs_of r) (state_of r bytes) word (decode_of word)))
     c.read32-word.ensures.value))
