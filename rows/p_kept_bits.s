@@ -41,9 +41,9 @@
         li      x3, 0x123
         csrw    satp, x3
         csrrw   x19, satp, x1               # the old value is read, and stays
-        li      x2, 8
+        li      x2, 9
         slli    x2, x2, 60
-        csrrs   x20, satp, x2               # likewise by a set row: MODE 8
+        csrrs   x20, satp, x2               # likewise by a set row: MODE 9
         csrr    x22, satp
         csrw    satp, x0
         csrr    x23, satp

@@ -97,7 +97,7 @@ class Hart:
         self.supervisor = True
         self.state = 'stopped'
         self.time = 0
-        self.reservation = None     # (address, width), or None
+        self.reservation = None     # (offset in memory, width), or None
         self.word = 0
         # The CSRs hold exactly the bits that are kept.
         self.sstatus = self.sie = self.stvec = self.scounteren = self.senvcfg = 0
@@ -114,11 +114,44 @@ class Hart:
         if number != 0:
             self.x[number] = low(value, 64)
 
-    # memory; translation is bare, so a virtual address is a guest physical one
+    # memory. fault is the access fault of a kind of access: 1 of a fetch, 5 of a load, 7 of a store
+
+    def offset(self, physical, width):
+        """The offset in memory, or None where a guest physical address isn't memory."""
+        offset = physical - RAM
+        return offset if 0 <= offset <= len(self.memory) - width else None
+
+    def translate(self, address, fault):
+        """The guest physical address. A and D are never set: a leaf without them is a page fault."""
+        if self.satp >> 60 == 0:
+            return address
+        page_fault = Trap({1: 12, 5: 13, 7: 15}[fault], address)
+        if address >> 38 not in (0, (1 << 26) - 1):
+            raise page_fault
+        table = low(self.satp, 44) * PAGE
+        for level in (2, 1, 0):
+            at = self.offset(table + 8 * low(address >> 12 + 9 * level, 9), 8)
+            if at is None:
+                raise Trap(fault, address)
+            entry = int.from_bytes(self.memory[at:at + 8], 'little')
+            v, r, w, x, u, _, a, d = (entry >> bit & 1 for bit in range(8))
+            page = low(entry >> 10, 44)
+            if not v or entry >> 54 or w and not r:
+                raise page_fault
+            if r or x:
+                break
+            if a or d or u or level == 0:
+                raise page_fault
+            table = page * PAGE
+        may = {1: x, 5: r or x and self.flag(19), 7: w and d}[fault]
+        theirs = u if not self.supervisor else not u or fault != 1 and self.flag(18)
+        if not may or not theirs or not a or low(page, 9 * level):
+            raise page_fault
+        return page * PAGE + low(address, 12 + 9 * level)
 
     def place(self, address, width, fault):
-        offset = address - RAM
-        if offset < 0 or offset + width > len(self.memory):
+        offset = self.offset(self.translate(address, fault), width)
+        if offset is None:
             raise Trap(fault, address)
         return offset
 
@@ -240,8 +273,8 @@ def csr_write(h, number, v):
     elif number == 0x144:
         h.ssip = v >> 1 & 1
     elif number == 0x180:
-        if v >> 60 == 0:            # any other MODE, 8 too for now: the whole write has no effect
-            h.satp = low(v, 44)
+        if v >> 60 in (0, 8):       # any other MODE: the whole write has no effect
+            h.satp = v >> 60 << 60 | low(v, 44)
     else:
         h.refuse()                  # 0xC01
 
@@ -393,7 +426,7 @@ def load_reserved(width):
         address = h.get(rs1(w))
         h.aligned(address, width, 4)
         value = h.read(address, width, 5)
-        h.reservation = (address, width)
+        h.reservation = (h.place(address, width, 5), width)
         h.put(rd(w), sext(value, 8 * width))
     return effect
 
@@ -402,8 +435,7 @@ def store_conditional(width):
     def effect(h, w):
         address = h.get(rs1(w))
         h.aligned(address, width, 6)
-        h.place(address, width, 7)          # also where it will fail
-        success = h.reservation == (address, width)
+        success = h.reservation == (h.place(address, width, 7), width)      # the place also where it fails
         if success:
             h.write(address, width, h.get(rs2(w)))
         h.reservation = None

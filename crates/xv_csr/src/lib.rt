@@ -26,8 +26,8 @@ use cause::{EXTERNAL_INTERRUPT, SOFTWARE_INTERRUPT, TIMER_INTERRUPT};
 pub use flags::{Interrupts, Sstatus};
 pub use kept::{INSTRUCTION_ALIGNMENT, VECTORED};
 use kept::{
-    MXR_BIT, SUM_BIT, TM_BIT, UXL, kept_satp, kept_scounteren, kept_senvcfg, kept_sepc, kept_sie, kept_sstatus,
-    kept_stvec,
+    MXR_BIT, SUM_BIT, TM_BIT, UXL, kept_satp, kept_scounteren, kept_senvcfg, kept_sepc, kept_sie,
+    kept_sstatus, kept_stvec,
 };
 use xv_base::has_bit;
 

@@ -1,6 +1,6 @@
 -- Where an access leads keeps its alignment.
-use Rattle.std.proofs.Common.{◌≡◌, ℕ, ◌%◌, ◌+◌, ◌-◌, ◌≤◌, ◌&&◌, Bool, true, false, cond, leb, Some}
-use Rattle.std.proofs.Common.{None, arith, refl}
+use Rattle.std.proofs.Common.{◌≡◌, ℕ, ◌%◌, ◌+◌, ◌-◌, ◌≤◌, Some}
+use Rattle.std.proofs.Common.{arith}
 use Rattle.std.proofs.lemmas.Bool.Decides.{nat_tests}
 use Rattle.xv_hart.specs.declared.action.Width.{Width}
 use Rattle.xv_hart.specs.declared.action.Width.TheVariants.{W1, W2, W4, W8}

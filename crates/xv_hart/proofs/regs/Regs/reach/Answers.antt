@@ -1,6 +1,5 @@
 use Rattle.std.proofs.Common.{sym, ap, ◌∙◌}
 use Rattle.xv_pte.proofs.Lacking.{verdict_offset}
-use Rattle.xv_pte.specs.Sv39.{verdict}
 use Rattle.xv_step.specs.Bus.{reader}
 use Rattle.xv_step.specs.State.{view}
 use Rattle.xv_hart.specs.Memory.{bus_of}
