@@ -164,6 +164,10 @@ impl Regs {
             (view (state_of self.now mem.now)) va kind }
         ensures counted { steps.new ≤ steps.old + 3 }
     {
+        // Bare, which is frequent, makes nothing for a walk.
+        if self.csrs.satp >> 60 == 0 {
+            return Ok(va);
+        }
         let view = View {
             satp: self.csrs.satp,
             user: self.user,
