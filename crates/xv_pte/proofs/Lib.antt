@@ -1,3 +1,4 @@
 pub mod ReadersAgree
 pub mod Lacking
 pub mod Examples
+pub mod StageExamples

@@ -1,2 +1,3 @@
 pub mod Entry
+pub mod GStage
 pub mod Sv39

@@ -7,12 +7,16 @@
 
 mod access;
 mod entry;
+mod g_entry;
+mod g_stage;
 
 pub use access::{Kind3, View};
 pub use entry::{
     Kind, is_accessed, is_dirty, is_executable, is_readable, is_users, is_writable, kind_of,
     page_number,
 };
+pub use g_entry::{GEntry, Mapping, g_entry_of};
+pub use g_stage::Leaf;
 
 #[cfg(test)]
 mod tests;
