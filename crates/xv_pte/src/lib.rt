@@ -16,7 +16,7 @@ pub use entry::{
     page_number,
 };
 pub use g_entry::{GEntry, Mapping, g_entry_of};
-pub use g_stage::Leaf;
+pub use g_stage::{Leaf, walk};
 
 #[cfg(test)]
 mod tests;
