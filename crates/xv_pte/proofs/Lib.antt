@@ -3,3 +3,7 @@ pub mod Lacking
 pub mod Examples
 pub mod StageExamples
 pub mod WalkTables
+pub mod EntryWords
+pub mod WalkLocal
+pub mod WalkEmpty
+pub mod WalkPages

@@ -100,6 +100,12 @@ leaf_at gpa (Some mapping) =
 abbrev pub walked : List ℕ → ℕ → ℕ → Option Leaf
 walked bytes root gpa = leaf_at gpa (led bytes root (gpa / 4096))
 
+-- a leaf, so many bytes on
+abbrev pub offset_by : ℕ → Option Leaf → Option Leaf
+offset_by offset None = None
+offset_by offset (Some leaf) =
+    Some (record { host = leaf.host + offset; writable = leaf.writable })
+
 -- ---- the tables
 
 -- the tables below a root: those that its pointers name, and those that the pointers there name

@@ -9,6 +9,7 @@ mod access;
 mod entry;
 mod g_entry;
 mod g_stage;
+mod law;
 
 pub use access::{Kind3, View};
 pub use entry::{
@@ -17,6 +18,7 @@ pub use entry::{
 };
 pub use g_entry::{GEntry, Mapping, g_entry_of};
 pub use g_stage::{Leaf, walk};
+pub use law::{walks_are_local, walks_go_by_pages};
 
 #[cfg(test)]
 mod tests;
