@@ -7,3 +7,4 @@ pub mod EntryWords
 pub mod WalkLocal
 pub mod WalkEmpty
 pub mod WalkPages
+pub mod TestTables

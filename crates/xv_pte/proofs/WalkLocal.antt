@@ -154,3 +154,5 @@ module _ (old new : List ℕ) (root : ℕ) (same : SameFrames old new root) wher
   tables_by_frames table =
       let words = same_tables old new root same in
       (table_before old new root words table, table_after old new root words table)
+
+pub ruleset by_frames = (walked_by_frames, tables_by_frames)

@@ -21,3 +21,5 @@ module _ (bytes : List ℕ) (root page : ℕ) (low : page < 2 ^ 29) where
       → entry_in bytes (root_slot root page) ≡ Pointer middle → (table : ℕ)
       → entry_in bytes (middle_slot middle page) ≡ Pointer table → 4096 * table + 4096 ≤ length bytes
   last_inside has middle e table f = has.tables_inside table (last_is_table middle table e f)
+
+pub ruleset inside = (middle_inside, last_inside)

@@ -32,7 +32,7 @@ pub fn walk<L: Ledger>(mem: &HostMem, root: u8, gpa: u64, steps: &mut Steps<L>) 
 }
 
 /// The frame that a page is led to, from the root on.
-#[tactic(auto, using(crate::proofs::WalkTables::middle_inside, crate::proofs::WalkTables::last_inside), unfolding(crate::specs::GStage::led))]
+#[tactic(auto, using(crate::proofs::WalkTables::inside), unfolding(crate::specs::GStage::led))]
 fn lead<L: Ledger>(mem: &HostMem, root: u8, page: u64, steps: &mut Steps<L>) -> Option<Mapping>
     requires { stage.HasTables mem.now root }
     ensures led { result ≡ stage.led mem.now root page }

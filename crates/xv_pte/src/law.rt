@@ -4,7 +4,7 @@ ghost use Rattle.xv_pte.specs.GStage.{IsTableOf, SameFrames, offset_by, walked};
 
 /// Walks are local: where the frames of a root and of its tables are the same, every address leads
 /// where it led, and the tables are the same ones.
-#[tactic(auto, using(crate::proofs::WalkLocal::walked_by_frames, crate::proofs::WalkLocal::tables_by_frames))]
+#[tactic(auto, using(crate::proofs::WalkLocal::by_frames))]
 pub fn walks_are_local()
     ensures walks { (old new : List ℕ) (root : ℕ) → SameFrames old new root → (gpa : ℕ)
         → walked new root gpa ≡ walked old root gpa }

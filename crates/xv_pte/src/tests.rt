@@ -1,3 +1,5 @@
+mod walks;
+
 use crate::{Kind, kind_of, page_number};
 
 /// Entries by their low bits, over page 0x80123: what each is.
