@@ -98,6 +98,9 @@ module _ (old new : List ℕ) (root : ℕ) (same : SameTables old new root) wher
       Last i middle j table lt (root_entry_same i lt ∙ e) lj
       (table_entry_same middle (Middle i middle lt e) j lj ∙ f)
 
+  pub tables_local : (table : ℕ) → IsTableOf new root table ↔ IsTableOf old root table
+  tables_local table = (table_before table, table_after table)
+
   pub same_back : SameTables new old root
   same_back = record {
     root_same = λ i lt. sym (same.root_same i lt);
@@ -133,26 +136,21 @@ frame_words old new frame e i lt =
     subst (λ (at : ℕ). word_at 8 new at ≡ word_at 8 old at) place
     (word_at_same_range 8 new old (4096 * frame) (4096 * frame) 4096 (8 * i) e (omega arith))
 
-pub same_tables : (old new : List ℕ) (root : ℕ) → SameFrames old new root → SameTables old new root
-same_tables old new root same = record {
+-- by the words of each frame of the root, and of each table
+pub same_by_words : (old new : List ℕ) (root : ℕ)
+    → ((frame : ℕ) → frame / 4 ≡ root → SameWords old new frame)
+    → ((table : ℕ) → IsTableOf old root table → SameWords old new table) → SameTables old new root
+same_by_words old new root of_root of_tables = record {
   root_same = λ i lt.
       let place : 512 * (4 * root + i / 512) + i % 512 ≡ 2048 * root + i = omega arith in
       subst (λ (slot : ℕ). word_in new slot ≡ word_in old slot) place
-      (frame_words old new (4 * root + i / 512)
-      (same.root_frames (4 * root + i / 512) (omega arith)) (i % 512) (omega arith));
-  tables_same = λ table is. frame_words old new table (same.table_frames table is);
+      (of_root (4 * root + i / 512) (omega arith) (i % 512) (omega arith));
+  tables_same = of_tables;
 }
 
-module _ (old new : List ℕ) (root : ℕ) (same : SameFrames old new root) where
-  pub led_by_frames : (page : ℕ) → led new root page ≡ led old root page
-  led_by_frames page = led_local old new root (same_tables old new root same) page
+pub same_tables : (old new : List ℕ) (root : ℕ) → SameFrames old new root → SameTables old new root
+same_tables old new root same =
+    same_by_words old new root (λ frame is. frame_words old new frame (same.root_frames frame is))
+    (λ table is. frame_words old new table (same.table_frames table is))
 
-  pub walked_by_frames : (gpa : ℕ) → walked new root gpa ≡ walked old root gpa
-  walked_by_frames gpa = walked_local old new root (same_tables old new root same) gpa
-
-  pub tables_by_frames : (table : ℕ) → IsTableOf new root table ↔ IsTableOf old root table
-  tables_by_frames table =
-      let words = same_tables old new root same in
-      (table_before old new root words table, table_after old new root words table)
-
-pub ruleset by_frames = (walked_by_frames, tables_by_frames)
+pub ruleset locality = (walked_local, tables_local, same_tables)
