@@ -1,6 +1,6 @@
 -- Worked rows of the walk of a guest physical address, computed by the checker.
-use Rattle.std.proofs.Common.{◌≡◌, ℕ, zero, suc, ◌+◌, ◌*◌, ◌/◌, ◌%◌, ◌^◌, Bool, true, false, List, [], ◌∷◌, ◌++◌}
-use Rattle.std.proofs.Common.{replicate, Option, Some, None, refl}
+use Rattle.std.proofs.Common.{◌≡◌, ℕ, zero, suc, ◌+◌, ◌*◌, ◌/◌, ◌%◌, ◌^◌, Bool, true, false}
+use Rattle.std.proofs.Common.{List, [], ◌∷◌, ◌++◌, replicate, Option, Some, None, refl}
 use Rattle.xv_pte.specs.declared.g_stage.Leaf.{Leaf}
 use Rattle.xv_pte.specs.GStage.{entry_of, word_in, led, walked}
 use Rattle.xv_mem.specs.Bytes.{word_at}

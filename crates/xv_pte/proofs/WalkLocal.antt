@@ -8,8 +8,9 @@ use Rattle.xv_mem.proofs.Words.{word_at_same, word_at_same_range}
 use Rattle.xv_pte.specs.declared.g_entry.GEntry.{GEntry}
 use Rattle.xv_pte.specs.declared.g_entry.GEntry.TheVariants.{Pointer, Page, Nothing}
 use Rattle.xv_pte.specs.GStage.{entry_of, word_in, entry_in, root_slot, middle_slot, last_slot}
-use Rattle.xv_pte.specs.GStage.{at_last, at_middle, at_root, led, leaf_at, walked, IsTableOf, Middle}
-use Rattle.xv_pte.specs.GStage.{Last, HasTables, SameWords, SameTables, frame_bytes, SameFrames}
+use Rattle.xv_pte.specs.GStage.{at_last, at_middle, at_root, led, leaf_at, walked, IsTableOf}
+use Rattle.xv_pte.specs.GStage.{Middle, Last, HasTables, SameWords, SameTables}
+use Rattle.xv_pte.specs.GStage.{frame_bytes, SameFrames}
 use Rattle.xv_pte.proofs.WalkTables.{middle_is_table, last_is_table}
 
 -- both memories have the same entries where the walk of a page reads

@@ -1,7 +1,8 @@
 -- The tables that the walk of a page reads are tables of its root.
 use Rattle.std.proofs.Common.{◌≡◌, ℕ, ◌+◌, ◌*◌, ◌/◌, ◌%◌, ◌^◌, ◌<◌, ◌≤◌, List, length, arith}
 use Rattle.xv_pte.specs.declared.g_entry.GEntry.TheVariants.{Pointer}
-use Rattle.xv_pte.specs.GStage.{entry_in, root_slot, middle_slot, IsTableOf, Middle, Last, HasTables}
+use Rattle.xv_pte.specs.GStage.{entry_in, root_slot, middle_slot, IsTableOf, Middle, Last}
+use Rattle.xv_pte.specs.GStage.{HasTables}
 
 module _ (bytes : List ℕ) (root page : ℕ) (low : page < 2 ^ 29) where
   pub middle_is_table : (table : ℕ) → entry_in bytes (root_slot root page) ≡ Pointer table
@@ -19,7 +20,8 @@ module _ (bytes : List ℕ) (root page : ℕ) (low : page < 2 ^ 29) where
 
   pub last_inside : HasTables bytes root → (middle : ℕ)
       → entry_in bytes (root_slot root page) ≡ Pointer middle → (table : ℕ)
-      → entry_in bytes (middle_slot middle page) ≡ Pointer table → 4096 * table + 4096 ≤ length bytes
+      → entry_in bytes (middle_slot middle page) ≡ Pointer table
+      → 4096 * table + 4096 ≤ length bytes
   last_inside has middle e table f = has.tables_inside table (last_is_table middle table e f)
 
 pub ruleset inside = (middle_inside, last_inside)

@@ -84,7 +84,7 @@ fn store<L: Ledger>(memory: &mut HostMem, slot: u64, word: u64, steps: &mut Step
 }
 
 /// That many frames of memory, with the words.
-#[tactic(auto, using(crate::proofs::TestTables::has_tables_of_targets, crate::proofs::TestTables::zeros_targets))]
+#[tactic(auto, using(crate::proofs::TestTables::has_tables_of_targets))]
 fn tables<L: Ledger>(alloc: Global, frames: u32, steps: &mut Steps<L>) -> Result<HostMem, NoMemory>
     requires { 10 ≤ frames }
     ensures { IfOk result (λ memory. HasTables memory 1) }
