@@ -151,6 +151,7 @@ fn page_fault(kind: Kind3) -> u64
 
 impl Regs {
     /// The guest physical address of a virtual one, for an access of this kind.
+    #[inline(always)]
     fn translate<L: Ledger>(
         &self,
         mem: &HostMem,
@@ -164,10 +165,29 @@ impl Regs {
             (view (state_of self.now mem.now)) va kind }
         ensures counted { steps.new ≤ steps.old + 3 }
     {
-        // Bare, which is frequent, makes nothing for a walk.
+        // Bare, which is frequent, makes nothing for a walk, and calls nothing.
         if self.csrs.satp >> 60 == 0 {
             return Ok(va);
         }
+        self.walk(mem, kind, va, steps)
+    }
+
+    /// The same, where satp may name tables of the guest. It is kept out of its callers, which are
+    /// short then.
+    #[inline(never)]
+    fn walk<L: Ledger>(
+        &self,
+        mem: &HostMem,
+        kind: Kind3,
+        va: u64,
+        steps: &mut Steps<L>,
+    ) -> Result<u64, WalkFault>
+        requires formed { IsWellFormed self.now }
+        requires memory { HasMemory self.now mem.now }
+        ensures verdict { verdict_of result ≡ verdict (reader (bus_of self.now) mem.now)
+            (view (state_of self.now mem.now)) va kind }
+        ensures counted { steps.new ≤ steps.old + 3 }
+    {
         let view = View {
             satp: self.csrs.satp,
             user: self.user,
@@ -178,6 +198,7 @@ impl Regs {
     }
 
     /// A fault of the G stage, for an access at a virtual address.
+    #[cold]
     fn guest_fault(&self, kind: Kind3, va: u64, gpa: u64, htinst: u64) -> Exit
         ensures { result ≡ Exit.Trap (fault_trap self.now.user kind va gpa htinst) }
     {
@@ -192,6 +213,7 @@ impl Regs {
     }
 
     /// The host address of an aligned access to memory, or the exit where it leads to none.
+    #[inline]
     pub(crate) fn reach<L: Ledger>(
         &mut self,
         mem: &HostMem,

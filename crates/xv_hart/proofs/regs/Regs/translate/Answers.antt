@@ -1,15 +1,10 @@
 use Rattle.std.proofs.Common.{◌==◌, sym, ap}
-use Rattle.xv_csr.proofs.KeptLemmas.{satp_mode}
 use Rattle.xv_step.specs.Bus.{reader}
 use Rattle.xv_step.specs.State.{view}
 use Rattle.xv_hart.specs.Memory.{bus_of}
 use Rattle.xv_hart.specs.Step.{state_of}
 use Rattle.xv_sv39.proofs.VerdictLemmas.{bare_verdict}
 use Rattle.xv_hart.proofs.regs.Regs.translate.Goals as goal
-
-pub translated-requires-clause-mode : goal.translated-requires-clause-mode
-translated-requires-clause-mode g c =
-    satp_mode c.args.self.now.csrs.satp c.requires.formed.csrs.satp
 
 pub returns-then-self-eq0-clause-verdict : goal.returns-then-self-eq0-clause-verdict
 returns-then-self-eq0-clause-verdict g c =
