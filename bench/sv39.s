@@ -1,0 +1,34 @@
+# The loop of memory.s under Sv39, which leads each address to itself: code is executed and read, the ring,
+# which has a page of its own, is read and written. The tables are three pages between them.
+        li      x1, 0x80001000              # the root: its entry 2 names the table at 0x80002000
+        li      x2, 0x20000801
+        sd      x2, 16(x1)
+        li      x1, 0x80002000              # its entry 0 names the table at 0x80003000
+        li      x2, 0x20000c01
+        sd      x2, 0(x1)
+        li      x1, 0x80003000              # V, R, X and A for the code; V, R, W, A and D for the ring
+        li      x2, 0x2000004b
+        sd      x2, 0(x1)
+        li      x2, 0x200010c7
+        sd      x2, 32(x1)
+        li      x1, 0x80001                 # MODE 8
+        li      x2, 8
+        slli    x2, x2, 60
+        or      x1, x1, x2
+        csrw    satp, x1
+        sfence.vma
+        li      x6, 0x80004000
+        li      x5, 0
+1:      add     x7, x6, x5
+        ld      x8, 0(x7)
+        addi    x8, x8, 1
+        sd      x8, 0(x7)
+        lw      x9, 4(x7)
+        sh      x8, 6(x7)
+        lbu     x10, 2(x7)
+        sb      x10, 3(x7)
+        lhu     x11, 0(x7)
+        sw      x11, 4(x7)
+        addi    x5, x5, 8
+        andi    x5, x5, 0x7f8
+        j       1b
