@@ -1,12 +1,21 @@
 -- The step, part by part, and what it keeps.
-use Rattle.std.proofs.Common.{◌≡◌, ℕ, List, Option, ap, ◌∙◌, arith}
+use Rattle.std.proofs.Common.{◌≡◌, ℕ, ◌-◌, ◌^◌, Bool, true, false, List, Option, refl, ap, ◌∙◌}
+use Rattle.std.proofs.Common.{arith}
+use Rattle.std.proofs.lemmas.Nat.{and_or_apart}
 use Rattle.std.proofs.lemmas.Bool.Decides.{nat_tests}
 use Rattle.xv_csr.specs.declared.SCsrs.{SCsrs}
 use Rattle.xv_csr.specs.Fields.{IsInstructionAddress}
 use Rattle.xv_csr.specs.Kept.{IsKept, kept_sepc}
 use Rattle.xv_csr.specs.Pending.{chosen_interrupt}
-use Rattle.xv_csr.specs.Trap.{handler}
-use Rattle.xv_step.specs.Outcome.{Raised}
+use Rattle.xv_csr.specs.Trap.{handler, trap_csrs, return_csrs}
+use Rattle.xv_csr.proofs.BitsLemmas.{and-and}
+use Rattle.xv_base.specs.Bits.{has_bit}
+use Rattle.xv_hcsr.specs.declared.HCsrs.{HCsrs}
+use Rattle.xv_hcsr.specs.Guest.{IsForGuest}
+use Rattle.xv_hcsr.specs.Lines.{with_software}
+use Rattle.xv_hcsr.proofs.LineLemmas.{has_bit-same}
+use Rattle.xv_step.specs.State.{trapped}
+use Rattle.xv_step.specs.Outcome.{Went}
 use Rattle.xv_step.specs.Perform.{performed}
 use Rattle.xv_step.specs.Step.{step, fetched, interrupted}
 use Rattle.xv_hart.specs.declared.action.Action.{Action}
@@ -16,11 +25,45 @@ use Rattle.xv_hart.specs.declared.regs.Regs.{Regs}
 use Rattle.xv_hart.specs.Action.{action_of}
 use Rattle.xv_hart.specs.Memory.{bus_of}
 use Rattle.xv_hart.specs.Step.{HStep, came, exit_of, state_of, inputs_of, hart_step, after_trap}
+use Rattle.xv_hart.specs.Step.{lines_of}
 
 -- every handler stands at an instruction's address
 pub handler_aligned : (csrs : SCsrs) (cause : ℕ) → IsInstructionAddress (handler csrs cause)
 unfolding handler
 handler_aligned csrs cause = grind (arith, nat_tests)
+
+pub trap_ssip : (csrs : SCsrs) (user : Bool) (cause tval pc : ℕ)
+    → (trap_csrs csrs user cause tval pc).ssip ≡ csrs.ssip
+unfolding trap_csrs
+trap_ssip csrs user cause tval pc = refl
+
+pub ruleset entered = (handler_aligned, trap_ssip)
+
+pub return_ssip : (csrs : SCsrs) → (return_csrs csrs).ssip ≡ csrs.ssip
+unfolding return_csrs
+return_ssip csrs = refl
+
+-- the line that is SSIP, and the other hypervisor CSRs
+pub ssip_line : (software : Bool) (hvip : ℕ) → has_bit 2 (with_software software hvip) ≡ software
+ssip_line software hvip = has_bit-same 2 software hvip (omega arith)
+
+pub ssip_other : (software : Bool) (hvip : ℕ)
+    → with_software false (with_software software hvip) ≡ with_software false hvip
+ssip_other true hvip = and_or_apart (2 ^ 64 - 1 - 2 ^ 2) hvip (2 ^ 2) refl
+ssip_other false hvip = and-and (2 ^ 64 - 1 - 2 ^ 2) hvip
+
+pub ssip_guest : (h : HCsrs) (hvip : ℕ) → IsForGuest h → IsForGuest (record h { hvip = hvip })
+ssip_guest h hvip guest = record {
+  stage = guest.stage;
+  root = guest.root;
+  vmid = guest.vmid;
+  exceptions = guest.exceptions;
+  interrupts = guest.interrupts;
+  counters = guest.counters;
+  waits = guest.waits;
+}
+
+pub ruleset ssip = (ssip_line, ssip_other, ssip_guest)
 
 -- SRET returns to one
 pub sepc_aligned : (csrs : SCsrs) → IsKept csrs → IsInstructionAddress csrs.sepc
@@ -37,14 +80,15 @@ abbrev pub fetch_of : Regs → List ℕ → HStep
 fetch_of r bytes = exit_of r bytes (fetched (bus_of r) (inputs_of r) (state_of r bytes))
 
 module _ (r : Regs) (bytes : List ℕ) where
-  pub came_trapped : (exit : Exit) (new : Regs) (cause tval : ℕ) → exit ≡ Done
-      → new ≡ after_trap cause tval r
-      → came exit new bytes ≡ exit_of r bytes (Raised cause tval)
-  came_trapped exit new cause tval done regs =
+  -- an interrupt
+  pub came_interrupted : (exit : Exit) (new : Regs) (cause : ℕ) → exit ≡ Done
+      → new ≡ after_trap cause 0 r
+      → came exit new bytes ≡ exit_of r bytes (Went (trapped cause 0 (state_of r bytes)))
+  came_interrupted exit new cause done regs =
       ap (λ e. came e new bytes) done ∙ ap (λ n. came Done n bytes) regs
 
   -- the step, where this interrupt is taken or none
-  pub step_is : (o : Option ℕ) → chosen_interrupt r.csrs r.user r.lines ≡ o
+  pub step_is : (o : Option ℕ) → chosen_interrupt r.csrs r.user (lines_of r.h) ≡ o
       → hart_step r bytes
       ≡ exit_of r bytes (interrupted (bus_of r) (inputs_of r) (state_of r bytes) o)
   unfolding hart_step step

@@ -9,7 +9,7 @@ use Rattle.std.proofs.lemmas.Bool.Decides.{Decides-and, Decides-eqb, Decides-lik
 use Rattle.std.proofs.lemmas.Slice.Eq.{bytes_eq-Decides}
 use Rattle.std.specs.Str.{bytes_eq}
 use Rattle.xv_csr.specs.declared.SCsrs.{SCsrs}
-use Rattle.xv_csr.specs.declared.Lines.{Lines}
+use Rattle.xv_hcsr.specs.declared.HCsrs.{HCsrs}
 use Rattle.xv_hart.specs.declared.window.Window.{Window}
 use Rattle.xv_hart.specs.declared.regs.Held.{Held}
 use Rattle.xv_hart.specs.declared.regs.Regs.{Regs}
@@ -43,30 +43,42 @@ csrs_from : (a b : ℕ) (s : Bool) (d e f g h i j k : ℕ) → a ≡ 0 → b ≡
     → f ≡ 0 → g ≡ 0 → h ≡ 0 → i ≡ 0 → j ≡ 0 → k ≡ 0 → csrs a b s d e f g h i j k ≡ zero_regs.csrs
 csrs_from a b s d e f g h i j k ea eb es ed ee ef eg eh ei ej ek = cc
 
-abbrev lines : Bool → Bool → Lines
-lines timer external = record { timer = timer; external = external }
+abbrev hcsrs : ℕ → ℕ → ℕ → ℕ → ℕ → ℕ → ℕ → ℕ → ℕ → HCsrs
+hcsrs a b c d e f g h i =
+    record {
+      hstatus = a;
+      hedeleg = b;
+      hideleg = c;
+      hvip = d;
+      hgatp = e;
+      htimedelta = f;
+      hcounteren = g;
+      htval = h;
+      htinst = i;
+    }
 
-lines_from : (a b : Bool) → a ≡ false → b ≡ false → lines a b ≡ zero_regs.lines
-lines_from a b ea eb = cc
+hcsrs_from : (a b c d e f g h i : ℕ) → a ≡ 0 → b ≡ 0 → c ≡ 0 → d ≡ 0 → e ≡ 0 → f ≡ 0 → g ≡ 0
+    → h ≡ 0 → i ≡ 0 → hcsrs a b c d e f g h i ≡ zero_regs.h
+hcsrs_from a b c d e f g h i ea eb ec ed ee ef eg eh ei = cc
 
-abbrev regs : List ℕ → ℕ → Bool → SCsrs → Window → Lines → ℕ → Option Held → Regs
-regs x pc user c w l time held =
+abbrev regs : List ℕ → ℕ → Bool → SCsrs → HCsrs → Window → ℕ → Option Held → Regs
+regs x pc user c h w time held =
     record {
       x = x;
       pc = pc;
       user = user;
       csrs = c;
+      h = h;
       window = w;
-      lines = l;
       time = time;
       held = held;
     }
 
-regs_from : (x y : List ℕ) (pc pd : ℕ) (user used : Bool) (c d : SCsrs) (w v : Window) (l k : Lines)
+regs_from : (x y : List ℕ) (pc pd : ℕ) (user used : Bool) (c d : SCsrs) (h k : HCsrs) (w v : Window)
     (time tide : ℕ) (held other : Option Held)
-    → x ≡ y → pc ≡ pd → user ≡ used → c ≡ d → w ≡ v → l ≡ k → time ≡ tide → held ≡ other
-    → regs x pc user c w l time held ≡ regs y pd used d v k tide other
-regs_from x y pc pd user used c d w v l k time tide held other ex ep eu ec ew el et eh = cc
+    → x ≡ y → pc ≡ pd → user ≡ used → c ≡ d → h ≡ k → w ≡ v → time ≡ tide → held ≡ other
+    → regs x pc user c h w time held ≡ regs y pd used d k v tide other
+regs_from x y pc pd user used c d h k w v time tide held other ex ep eu ec el ew et eh = cc
 
 abbrev same_held : Held → Held → Bool
 same_held a b = eqb a.host b.host && eqb a.width b.width
@@ -142,20 +154,62 @@ window_zero w =
     (Decides-and _ _ (Decides-eqb w.base 0)
     (Decides-and _ _ (Decides-eqb w.size 0) (Decides-eqb w.host 0)))
 
-lines_zero : (l : Lines) → Decides (beq l.timer false && beq l.external false) (l ≡ zero_regs.lines)
-lines_zero l =
-    Decides-like (beq l.timer false && beq l.external false)
-    (λ h. lines_from l.timer l.external h.0 h.1)
-    (λ e. (ap (λ l. l.timer) e, ap (λ l. l.external) e))
-    (Decides-and _ _ (booleans_Decides l.timer false) (booleans_Decides l.external false))
+abbrev same_hcsrs : HCsrs → HCsrs → Bool
+same_hcsrs h k =
+    eqb h.hstatus k.hstatus
+    && (eqb h.hedeleg k.hedeleg
+    && (eqb h.hideleg k.hideleg
+    && (eqb h.hvip k.hvip
+    && (eqb h.hgatp k.hgatp
+    && (eqb h.htimedelta k.htimedelta
+    && (eqb h.hcounteren k.hcounteren
+    && (eqb h.htval k.htval && eqb h.htinst k.htinst)))))))
+
+abbrev zero_hcsrs : HCsrs → Bool
+zero_hcsrs h = same_hcsrs h zero_regs.h
+
+hcsrs_zero : (h : HCsrs) → Decides (zero_hcsrs h) (h ≡ zero_regs.h)
+hcsrs_zero k =
+    Decides-like (zero_hcsrs k)
+    (λ h. hcsrs_from k.hstatus k.hedeleg k.hideleg k.hvip k.hgatp k.htimedelta k.hcounteren k.htval
+    k.htinst
+    h.0 h.1.0 h.1.1.0 h.1.1.1.0 h.1.1.1.1.0 h.1.1.1.1.1.0 h.1.1.1.1.1.1.0 h.1.1.1.1.1.1.1.0
+    h.1.1.1.1.1.1.1.1)
+    (λ e. (
+      ap (λ h. h.hstatus) e,
+      (
+        ap (λ h. h.hedeleg) e,
+        (
+          ap (λ h. h.hideleg) e,
+          (
+            ap (λ h. h.hvip) e,
+            (
+              ap (λ h. h.hgatp) e,
+              (
+                ap (λ h. h.htimedelta) e,
+                (ap (λ h. h.hcounteren) e, (ap (λ h. h.htval) e, ap (λ h. h.htinst) e)),
+              ),
+            ),
+          ),
+        ),
+      ),
+    ))
+    (Decides-and _ _ (Decides-eqb k.hstatus 0)
+    (Decides-and _ _ (Decides-eqb k.hedeleg 0)
+    (Decides-and _ _ (Decides-eqb k.hideleg 0)
+    (Decides-and _ _ (Decides-eqb k.hvip 0)
+    (Decides-and _ _ (Decides-eqb k.hgatp 0)
+    (Decides-and _ _ (Decides-eqb k.htimedelta 0)
+    (Decides-and _ _ (Decides-eqb k.hcounteren 0)
+    (Decides-and _ _ (Decides-eqb k.htval 0) (Decides-eqb k.htinst 0)))))))))
 
 -- the test that compares registers field by field
 abbrev pub same : Regs → Regs → Bool
 same r s =
     bytes_eq r.x s.x && (eqb r.pc s.pc && (beq r.user s.user && (same_csrs r.csrs s.csrs
+    && (same_hcsrs r.h s.h
     && ((eqb r.window.base s.window.base
     && (eqb r.window.size s.window.size && eqb r.window.host s.window.host))
-    && ((beq r.lines.timer s.lines.timer && beq r.lines.external s.lines.external)
     && (eqb r.time s.time && option_eq same_held r.held s.held))))))
 
 abbrev pub zero_test : Regs → Bool
@@ -164,8 +218,8 @@ zero_test r = same r zero_regs
 pub regs_zero : (r : Regs) → Decides (zero_test r) (r ≡ zero_regs)
 regs_zero r =
     Decides-like (zero_test r)
-    (λ h. regs_from r.x zero_regs.x r.pc 0 r.user false r.csrs zero_regs.csrs r.window
-    zero_regs.window r.lines zero_regs.lines r.time 0 r.held None h.0 h.1.0 h.1.1.0 h.1.1.1.0
+    (λ h. regs_from r.x zero_regs.x r.pc 0 r.user false r.csrs zero_regs.csrs r.h zero_regs.h
+    r.window zero_regs.window r.time 0 r.held None h.0 h.1.0 h.1.1.0 h.1.1.1.0
     h.1.1.1.1.0 h.1.1.1.1.1.0 h.1.1.1.1.1.1.0 h.1.1.1.1.1.1.1)
     (λ e. (
       ap (λ r. r.x) e,
@@ -175,7 +229,7 @@ regs_zero r =
           ap (λ r. r.user) e,
           (
             ap (λ r. r.csrs) e,
-            (ap (λ r. r.window) e, (ap (λ r. r.lines) e, (ap (λ r. r.time) e, ap (λ r. r.held) e))),
+            (ap (λ r. r.h) e, (ap (λ r. r.window) e, (ap (λ r. r.time) e, ap (λ r. r.held) e))),
           ),
         ),
       ),
@@ -184,8 +238,8 @@ regs_zero r =
     (Decides-and _ _ (Decides-eqb r.pc 0)
     (Decides-and _ _ (booleans_Decides r.user false)
     (Decides-and _ _ (csrs_zero r.csrs)
+    (Decides-and _ _ (hcsrs_zero r.h)
     (Decides-and _ _ (window_zero r.window)
-    (Decides-and _ _ (lines_zero r.lines)
     (Decides-and _ _ (Decides-eqb r.time 0) (held_none r.held))))))))
 
 -- a trail without room has no entry

@@ -35,8 +35,18 @@ zero_regs = record {
     stval = 0;
     satp = 0;
   };
+  h = record {
+    hstatus = 0;
+    hedeleg = 0;
+    hideleg = 0;
+    hvip = 0;
+    hgatp = 0;
+    htimedelta = 0;
+    hcounteren = 0;
+    htval = 0;
+    htinst = 0;
+  };
   window = record { base = 0; size = 0; host = 0 };
-  lines = record { timer = false; external = false };
   time = 0;
   held = None;
 }

@@ -129,7 +129,8 @@ fn guest_page_fault(kind: Kind3) -> u8
 /// The cause of the exception that a misaligned access raises (Privileged Architecture 20211203,
 /// table 4.2).
 fn misaligned(kind: Kind3) -> u64
-    ensures { result ≡ misaligned kind }
+    ensures cause { result ≡ misaligned kind }
+    ensures small { result < 64 }
 {
     match kind {
         Kind3::Fetch => INSTRUCTION_ADDRESS_MISALIGNED,
@@ -140,7 +141,8 @@ fn misaligned(kind: Kind3) -> u64
 
 /// The cause of a page fault (Privileged Architecture 20211203, table 4.2).
 fn page_fault(kind: Kind3) -> u64
-    ensures { result ≡ page_fault kind }
+    ensures cause { result ≡ page_fault kind }
+    ensures small { result < 64 }
 {
     match kind {
         Kind3::Fetch => INSTRUCTION_PAGE_FAULT,

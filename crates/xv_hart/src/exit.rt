@@ -5,11 +5,13 @@
 pub struct HTrap {
     /// 10 for ECALL in S; 22 for WFI in S; 20, 21 and 23 where a fetch, a load or a store leads to
     /// no memory (Privileged Architecture 20211203, 8.6.1). LR is a load; SC and an AMO are
-    /// stores.
+    /// stores. Else the cause of an exception that hedeleg doesn't delegate: those of every guest
+    /// are delegated.
     pub cause: u8,
-    /// The guest virtual address of the access; for WFI its word; for ECALL 0.
+    /// The guest virtual address of the access; for WFI its word; for ECALL 0; for an exception
+    /// what stval would be.
     pub tval: u64,
-    /// The guest physical address of the access, shifted right by 2; for ECALL and WFI 0.
+    /// The guest physical address of the access, shifted right by 2; else 0.
     pub htval: u64,
     /// 0x3000 where the access was the hart's own, to an entry of the guest's page tables; else 0
     /// (8.6.3).

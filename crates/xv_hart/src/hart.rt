@@ -92,8 +92,9 @@ impl Hart {
         &self.regs
     }
 
-    /// Replaces the registers. A step needs a pc that is a multiple of 4, and CSRs that hold what
-    /// writes of them keep.
+    /// Replaces the registers. A step needs a pc that is a multiple of 4, CSRs that hold what
+    /// writes of them keep, hypervisor CSRs as `HCsrs::for_guest` makes them but for lines and
+    /// time, and an SSIP that equals VSSIP of hvip.
     pub fn set_regs(&mut self, regs: &Regs)
         ensures regs { regs_of self.new ≡ regs.now }
         ensures trail { trail_of self.new ≡ trail_of self.old }

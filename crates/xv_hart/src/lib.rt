@@ -2,10 +2,11 @@
 //! each row of the instruction table, in modes S and U, and leaves to its monitor what it can't do
 //! by itself: the calls and waits of S, and accesses that lead to no memory.
 //!
-//! It reaches its guest's memory through one window, in the place of the page tables of a G stage,
-//! and its interrupt lines are set from outside, in the place of hvip.
+//! The hypervisor CSRs say which exceptions enter its guest, which of the guest's interrupt lines
+//! are up, and how far the guest's time is from the host's clock. It reaches its guest's memory
+//! through one window, in the place of the page tables of a G stage.
 //!
-//! Integer results are `xv_alu`'s, CSRs `xv_csr`'s, traps `xv_trap`'s, decoding `xv_isa`'s and the
+//! Integer results are `xv_alu`'s, CSRs `xv_csr`'s and `xv_hcsr`'s, traps `xv_trap`'s, decoding `xv_isa`'s and the
 //! translation of a guest's virtual addresses `xv_sv39`'s.
 #![tactic(auto)]
 

@@ -28,8 +28,8 @@ impl Regs {
         ensures size { length mem.new ≡ length mem.old }
         ensures counted { steps.new ≤ steps.old + 9 }
     {
-        if let Some(cause) = chosen(&self.csrs, self.user, self.lines) {
-            return self.trap(cause, 0);
+        if let Some(cause) = chosen(&self.csrs, self.user, self.lines()) {
+            return self.enter(cause, 0);
         }
         let at = match self.reach(mem, Kind3::Fetch, Width::W4, self.pc, steps) {
             Ok(at) => at,

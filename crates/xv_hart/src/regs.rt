@@ -1,13 +1,27 @@
 //! The hart's registers, and the small changes that a step makes of them.
-ghost use Rattle.std.specs.Prelude.{◌≡◌, ◌<◌, ◌↔◌, IsTrue};
+ghost use Rattle.std.specs.Prelude.{◌≡◌, ◌<◌, ◌↔◌, ℕ, List, IsTrue};
 ghost use Rattle.xv_step.specs.State.{with_register};
 ghost use Rattle.xv_hart.specs.Hart.{zero_regs};
-ghost use Rattle.xv_hart.specs.Step.{after_trap, IsWellFormed};
+ghost use Rattle.xv_hcsr.specs.Time.{guest_time};
+ghost use Rattle.xv_step.specs.Outcome.{Raised, Went};
+ghost use Rattle.xv_step.specs.State.{trapped};
+ghost use Rattle.xv_hart.specs.Step.{came, exit_of, state_of, lines_of, IsWellFormed};
+ghost use Rattle.xv_hart.specs.Step.{after_trap, exception_trap, with_ssip_of};
 
-use crate::exit::Exit;
+use crate::exit::{Exit, HTrap};
 use crate::window::Window;
+use xv_base::has_bit;
 use xv_csr::{Lines, SCsrs};
-use xv_trap::enter;
+use xv_hcsr::HCsrs;
+use xv_trap::{delegated, enter};
+
+// bits of hvip: the lines of the guest's software interrupt, timer and interrupt controller
+// (Privileged Architecture 20211203, 8.2.3)
+const VSSIP: u64 = 1 << 2;
+
+const VSTIP_BIT: u32 = 6;
+
+const VSEIP_BIT: u32 = 10;
 
 /// A reservation of LR: `width` bytes, 4 or 8, at a host address (Unprivileged ISA 20191213, 8.2).
 #[derive(Clone, Copy, Debug, PartialEq, Eq)]
@@ -27,11 +41,11 @@ pub struct Regs {
     pub user: bool,
     /// The supervisor CSRs.
     pub csrs: SCsrs,
+    /// The hypervisor CSRs of its guest.
+    pub h: HCsrs,
     /// Where the guest's memory lies.
     pub window: Window,
-    /// The interrupt lines from outside.
-    pub lines: Lines,
-    /// What the counter `time` reads.
+    /// The host's clock. The counter `time` reads it with htimedelta added.
     pub time: u64,
     /// The reservation, if there is one.
     pub held: Option<Held>,
@@ -59,14 +73,21 @@ impl Regs {
                 stval: 0,
                 satp: 0,
             },
+            h: HCsrs {
+                hstatus: 0,
+                hedeleg: 0,
+                hideleg: 0,
+                hvip: 0,
+                hgatp: 0,
+                htimedelta: 0,
+                hcounteren: 0,
+                htval: 0,
+                htinst: 0,
+            },
             window: Window {
                 base: 0,
                 size: 0,
                 host: 0,
-            },
-            lines: Lines {
-                timer: false,
-                external: false,
             },
             time: 0,
             held: None,
@@ -99,9 +120,53 @@ impl Regs {
         Exit::Done
     }
 
-    /// Takes a trap into S, an exception or an interrupt.
-    #[tactic(auto, using(crate::proofs::StepLemmas::handler_aligned))]
+    /// The guest's timer and interrupt controller, as hvip has their lines.
+    pub(crate) fn lines(&self) -> Lines
+        ensures { result ≡ lines_of self.now.h }
+    {
+        Lines {
+            timer: has_bit(self.h.hvip, VSTIP_BIT),
+            external: has_bit(self.h.hvip, VSEIP_BIT),
+        }
+    }
+
+    /// What the counter `time` reads.
+    pub(crate) fn guest_time(&self) -> u64
+        ensures { result ≡ guest_time self.now.time self.now.h }
+    {
+        self.time.wrapping_add(self.h.htimedelta)
+    }
+
+    /// Makes VSSIP of hvip what the guest has written to SSIP of sip: the two are one bit
+    /// (Privileged Architecture 20211203, 8.2.3).
+    pub(crate) fn follow_ssip(&mut self)
+        ensures { self.new ≡ with_ssip_of self.old }
+    {
+        if self.csrs.ssip {
+            self.h.hvip |= VSSIP;
+        } else {
+            self.h.hvip &= !VSSIP;
+        }
+    }
+
+    /// An exception. It enters the guest where hedeleg says so, and is left to the monitor else.
     pub(crate) fn trap(&mut self, cause: u64, tval: u64) -> Exit
+        requires formed { IsWellFormed self.old }
+        requires small { cause < 64 }
+        ensures came { (bytes : List ℕ) →
+            came result self.new bytes ≡ exit_of self.old bytes (Raised cause tval) }
+        ensures formed { IsWellFormed self.new }
+    {
+        if delegated(&self.h, cause) {
+            self.enter(cause, tval)
+        } else {
+            self.exception(cause, tval)
+        }
+    }
+
+    /// Enters the guest's handler in S, by an exception or an interrupt.
+    #[tactic(auto, using(crate::proofs::StepLemmas::entered))]
+    pub(crate) fn enter(&mut self, cause: u64, tval: u64) -> Exit
         requires formed { IsWellFormed self.old }
         ensures done { result ≡ Exit.Done }
         ensures regs { self.new ≡ after_trap cause tval self.old }
@@ -111,5 +176,21 @@ impl Regs {
         self.pc = pc;
         self.user = false;
         Exit::Done
+    }
+
+    // An exception that isn't the guest's to take.
+    #[cold]
+    fn exception(&self, cause: u64, tval: u64) -> Exit
+        requires { cause < 64 }
+        ensures { result ≡ Exit.Trap (exception_trap self.now.user cause tval) }
+    {
+        Exit::Trap(HTrap {
+            cause: cause as u8,
+            tval,
+            htval: 0,
+            htinst: 0,
+            word: 0,
+            user: self.user,
+        })
     }
 }

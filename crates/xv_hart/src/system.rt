@@ -7,7 +7,8 @@ ghost use Rattle.xv_csr.specs.Fields.{IsInstructionAddress};
 ghost use Rattle.xv_step.specs.Perform as perform;
 ghost use Rattle.xv_hart.specs.Action.{change_of};
 ghost use Rattle.xv_hart.specs.Memory.{bus_of};
-ghost use Rattle.xv_hart.specs.Step.{came, exit_of, state_of, inputs_of, after_trap, IsWellFormed};
+ghost use Rattle.xv_step.specs.Outcome.{Raised};
+ghost use Rattle.xv_hart.specs.Step.{came, exit_of, state_of, inputs_of, IsWellFormed};
 
 use crate::action::CsrChange;
 use crate::exit::{Exit, HTrap};
@@ -40,8 +41,9 @@ impl Regs {
     /// The word is illegal.
     pub(crate) fn illegal(&mut self, word: u32) -> Exit
         requires formed { IsWellFormed self.old }
-        ensures done { result ≡ Exit.Done }
-        ensures regs { self.new ≡ after_trap illegal_instruction word self.old }
+        ensures came { (bytes : List ℕ) →
+            came result self.new bytes
+            ≡ exit_of self.old bytes (Raised illegal_instruction word) }
         ensures formed { IsWellFormed self.new }
     {
         self.trap(ILLEGAL_INSTRUCTION, word as u64)
@@ -66,6 +68,7 @@ impl Regs {
     }
 
     /// A CSR row: the old value goes to rd, and the CSR changes.
+    #[tactic(auto, using(crate::proofs::StepLemmas::ssip))]
     pub(crate) fn access_csr(
         &mut self,
         word: u32,
@@ -83,13 +86,16 @@ impl Regs {
             (state_of self.old bytes) number (change_of change) rd) }
         ensures formed { IsWellFormed self.new }
     {
-        let Some(old) = self.csrs.read(number, self.user, self.lines, self.time) else {
+        let lines = self.lines();
+        let time = self.guest_time();
+        let Some(old) = self.csrs.read(number, self.user, lines, time) else {
             return self.illegal(word);
         };
         if let Some(value) = change.of(old) {
             if !self.csrs.write(number, self.user, value) {
                 return self.illegal(word);
             }
+            self.follow_ssip();
         }
         self.set_register(rd, old);
         self.go_on(next)
@@ -113,8 +119,9 @@ impl Regs {
     /// EBREAK: an exception whose stval is the pc.
     pub(crate) fn breakpoint(&mut self) -> Exit
         requires formed { IsWellFormed self.old }
-        ensures done { result ≡ Exit.Done }
-        ensures regs { self.new ≡ after_trap breakpoint self.old.pc self.old }
+        ensures came { (bytes : List ℕ) →
+            came result self.new bytes
+            ≡ exit_of self.old bytes (Raised breakpoint self.old.pc) }
         ensures formed { IsWellFormed self.new }
     {
         self.trap(BREAKPOINT, self.pc)

@@ -11,8 +11,9 @@ use std::alloc::Global;
 use std::marker::Brand;
 use std::sync::ledger::{Blank, Ledger};
 use std::test::Fail;
-use xv_base::{NoMemory, Span};
-use xv_csr::{Lines, SCsrs};
+use xv_base::{GuestKey, NoMemory, Span};
+use xv_csr::SCsrs;
+use xv_hcsr::HCsrs;
 use xv_mem::Steps;
 
 /// The instruction, eight bytes of data, the handler of traps, and where SRET leads, all in the
@@ -71,6 +72,11 @@ const SRET: u32 = 0x1020_0073;
 /// The word of `wfi`.
 const WFI: u32 = 0x1050_0073;
 
+/// The host's clock, and htimedelta of a guest that was born at 9.
+const CLOCK: u64 = 12;
+
+const DELTA: u64 = 0xffff_ffff_ffff_fff7;
+
 const HELD_WORD: Option<Held> = Some(Held {
     host: HOST_DATA,
     width: 4,
@@ -88,19 +94,24 @@ const HELD_APART: Option<Held> = Some(Held {
 
 /// The CSRs before each step.
 fn csrs() -> SCsrs
-    ensures { IsKept result }
+    ensures kept { IsKept result }
+    ensures ssip { result.ssip ≡ false }
 {
     let mut csrs = SCsrs::reset();
     csrs.write(0x104, false, 0x20);
     csrs.write(0x105, false, HANDLER);
     csrs.write(0x141, false, RETURN);
-    csrs
+    SCsrs {
+        ssip: false,
+        ..csrs
+    }
 }
 
 /// The registers before each step. The last four bytes of the window are half of eight.
 fn before() -> Regs
     ensures formed { IsWellFormed result }
     ensures window { IsWindowIn 0x80_0000 result.window }
+    ensures ssip { result.csrs.ssip ≡ false }
 {
     let mut x = [0; 32];
     x[1] = 9;
@@ -114,16 +125,13 @@ fn before() -> Regs
         pc: PC,
         user: false,
         csrs: csrs(),
+        h: HCsrs::for_guest(3, GuestKey(5), DELTA),
         window: Window {
             base: PC,
             size: 0x1004,
             host: HOST_PC,
         },
-        lines: Lines {
-            timer: false,
-            external: false,
-        },
-        time: 7,
+        time: CLOCK,
         held: None,
     }
 }
@@ -200,7 +208,7 @@ fn a_machine_of_8_mib(rt: HostRuntime) -> Result<(), Fail> {
 }
 
 // in S: an instruction; a register and its value, the data, and the pc after it
-const EXECUTED: [(u32, usize, u64, u64, u64); 14] = [
+const EXECUTED: [(u32, usize, u64, u64, u64); 15] = [
     // addi x6, x5, 1
     (0x0012_8313, 6, 0xffff_ffff_ffff_ff81, OLD, NEXT),
     // lb x6, 0(x10); lbu x7, 0(x10); lw x7, 0(x10)
@@ -213,8 +221,9 @@ const EXECUTED: [(u32, usize, u64, u64, u64); 14] = [
     // amoadd.w x11, x5, (x10); amoswap.d x11, x5, (x10)
     (0x0055_25af, 11, SIGNED, 0x0123_4567_89ab_cd6f, NEXT),
     (0x0855_35af, 11, OLD, MINUS_128, NEXT),
-    // csrrs x12, sepc, x5
+    // csrrs x12, sepc, x5; csrrs x12, time, x0
     (0x1412_a673, 12, RETURN, OLD, NEXT),
+    (0xc010_2673, 12, 3, OLD, NEXT),
     // jal x1, 8; jalr x1, 0(x10)
     (0x0080_00ef, 1, NEXT, OLD, 0x8000_0008),
     (0x0005_00e7, 1, NEXT, OLD, DATA),
@@ -292,13 +301,11 @@ const TRAPS: [(u32, bool, bool, u64, u64); 13] = [
 #[test]
 fn traps(rt: HostRuntime) -> Result<(), Fail> {
     for (word, user, timer, scause, stval) in TRAPS {
-        let lines = Lines {
-            timer,
-            external: false,
-        };
+        let mut h = before().h;
+        h.set_lines(false, timer, false);
         let regs = Regs {
             user,
-            lines,
+            h,
             ..before()
         };
         let after = step_once(rt.alloc(), &regs, word)?;
@@ -318,6 +325,37 @@ fn traps(rt: HostRuntime) -> Result<(), Fail> {
             ..regs
         };
         assert!(rt; *after.machine.hart.regs() == handled, "{word:#x} {user}");
+    }
+    Ok(())
+}
+
+// the lines of the guest's software interrupt, timer and interrupt controller; what sip reads in S,
+// and the cause of the interrupt that is taken in U where sie has all three
+const LINES: [(bool, bool, bool, u64, u64); 4] = [
+    (true, false, false, 0x2, 0x8000_0000_0000_0001),
+    (false, true, false, 0x20, 0x8000_0000_0000_0005),
+    (false, false, true, 0x200, 0x8000_0000_0000_0009),
+    (true, true, true, 0x222, 0x8000_0000_0000_0009),
+];
+
+#[test]
+fn lines(rt: HostRuntime) -> Result<(), Fail> {
+    for (ssip, timer, external, sip, scause) in LINES {
+        let mut h = before().h;
+        h.set_lines(ssip, timer, external);
+        let mut csrs = before().csrs;
+        csrs.write(0x104, false, 0x222);
+        let csrs = SCsrs { ssip, ..csrs };
+        let regs = Regs {
+            csrs,
+            h,
+            ..before()
+        };
+        // csrrs x12, sip, x0
+        let read = step_once(rt.alloc(), &regs, 0x1440_2673)?;
+        assert_eq!(rt; read.machine.hart.regs().x.get(12), Some(&sip), "{sip:#x}");
+        let taken = step_once(rt.alloc(), &Regs { user: true, ..regs }, ECALL)?;
+        assert_eq!(rt; taken.machine.hart.regs().csrs.scause, scause, "{sip:#x}");
     }
     Ok(())
 }

@@ -13,7 +13,7 @@ bit_at-without : (j k : ℕ) → j < 64 → k < 64 → bit_at (2 ^ 64 - 1 - 2 ^ 
 bit_at-without j k inside below = bit_at_not w64 (2 ^ j) k (pow-lt inside) below
 
 -- the one bit is as given
-has_bit-same : (k : ℕ) (value : Bool) (number : ℕ) → k < 64
+pub has_bit-same : (k : ℕ) (value : Bool) (number : ℕ) → k < 64
     → has_bit k (with_bit k value number) ≡ value
 has_bit-same k true number below =
     let joined = bit_at_or number (2 ^ k) k in

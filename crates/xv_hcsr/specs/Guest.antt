@@ -1,7 +1,8 @@
 -- The hypervisor CSRs under which a guest runs (Privileged Architecture 20211203, section 8.2).
-use Rattle.std.specs.Prelude.{ℕ, ◌+◌, ◌*◌, ◌^◌, List, [], ◌∷◌}
-use Rattle.xv_base.specs.Bits.{mask}
+use Rattle.std.specs.Prelude.{ℕ, ◌≡◌, ◌+◌, ◌*◌, ◌^◌, ◌<◌, true, List, [], ◌∷◌}
+use Rattle.xv_base.specs.Bits.{has_bit, mask}
 use Rattle.xv_hcsr.specs.declared.HCsrs.{HCsrs}
+use Rattle.xv_hcsr.specs.Stage.{root_of, vmid_of}
 
 -- the exceptions that enter the guest: misaligned fetch 0, illegal instruction 2, breakpoint 3,
 -- misaligned load 4 and store 6, call from U 8, page fault of a fetch 12, of a load 13 and of a
@@ -35,3 +36,15 @@ guest_hcsrs root vmid delta = record {
   htval = 0;
   htinst = 0;
 }
+
+-- the registers of some guest: what stays as for_guest makes it as long as the guest lives. Lines,
+-- htval and htinst change while it runs, and htimedelta is the guest's own
+pub record IsForGuest (h : HCsrs) : Type 0 where
+  pub stage : h.hgatp ≡ guest_hgatp (root_of h) (vmid_of h)
+  pub root : root_of h < 16
+  pub vmid : vmid_of h < 16
+  pub exceptions : h.hedeleg ≡ mask guest_exceptions
+  pub interrupts : h.hideleg ≡ mask guest_interrupts
+  pub counters : h.hcounteren ≡ mask (1 ∷ [])
+  -- VTW of hstatus
+  pub waits : has_bit 21 h.hstatus ≡ true

@@ -15,6 +15,10 @@ timer_line h = has_bit 6 h.hvip
 abbrev pub external_line : HCsrs → Bool
 external_line h = has_bit 10 h.hvip
 
+-- hvip with the line of the software interrupt as given
+abbrev pub with_software : Bool → ℕ → ℕ
+with_software software hvip = with_bit 2 software hvip
+
 -- hvip with the three lines as given
 abbrev pub with_lines : Bool → Bool → Bool → ℕ → ℕ
 with_lines software timer external hvip =

@@ -13,3 +13,7 @@ vmid_of h = h.hgatp / 2 ^ 44 % 2 ^ 14
 -- PPN, bits 43:0: the frame of the root table
 abbrev pub root_page : HCsrs → ℕ
 root_page h = h.hgatp % 2 ^ 44
+
+-- the number of the root table, which is four frames
+abbrev pub root_of : HCsrs → ℕ
+root_of h = root_page h / 4

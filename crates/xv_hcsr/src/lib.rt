@@ -11,7 +11,7 @@ mod flags;
 
 ghost use Rattle.std.specs.Prelude.{◌≡◌, ◌≢◌, ◌*◌, ◌<◌, ℕ};
 ghost use Rattle.xv_base.specs.Bits.{has_bit};
-ghost use Rattle.xv_hcsr.specs.Guest.{guest_hcsrs, guest_hgatp};
+ghost use Rattle.xv_hcsr.specs.Guest.{guest_hcsrs, guest_hgatp, IsForGuest};
 ghost use Rattle.xv_hcsr.specs.Lines.{with_lines, software_line, timer_line, external_line};
 ghost use Rattle.xv_hcsr.specs.Stage.{stage_mode, vmid_of, root_page};
 
@@ -49,6 +49,8 @@ impl HCsrs {
         ensures mode { stage_mode result ≡ 8 }
         ensures vmid { vmid_of result ≡ vmid }
         ensures root { root_page result ≡ 4 * root }
+        ensures guest { root < 16 → IsForGuest result }
+        ensures lines { result.hvip ≡ 0 }
     {
         HCsrs {
             hstatus: Hstatus::SPV.union(Hstatus::VTW).bits(),
@@ -74,6 +76,7 @@ impl HCsrs {
         ensures external { external_line self.new ≡ external }
         ensures others { (k : ℕ) → k < 64 → k ≢ 2 → k ≢ 6 → k ≢ 10
             → has_bit k self.new.hvip ≡ has_bit k self.old.hvip }
+        ensures guest { IsForGuest self.old → IsForGuest self.new }
     {
         let mut lines = GuestInterrupts::from_bits_retain(self.hvip);
         lines.set(GuestInterrupts::SOFTWARE, ssip);

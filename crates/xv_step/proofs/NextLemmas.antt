@@ -1,4 +1,5 @@
--- What is left of an instruction carries where the next one stands.
+-- What is left of an instruction carries where the next one stands, and what is raised is one of nine
+-- exceptions.
 use Rattle.std.proofs.Common.{◌≡◌, ℕ, ◌%◌, ◌==◌, Bool, true, false, cond, Option, Some, None, refl}
 use Rattle.xv_isa.specs.declared.instruction.Insn.{Insn}
 use Rattle.xv_isa.specs.Effects as effects
@@ -6,8 +7,10 @@ use Rattle.xv_isa.specs.Effects.{CsrChange, effect_of}
 use Rattle.xv_isa.specs.Length.{fetch_width, next_pc}
 use Rattle.xv_isa.specs.Operands.{decode_of}
 use Rattle.xv_csr.specs.declared.SCsrs.{SCsrs}
-use Rattle.xv_csr.specs.Cause.{illegal_instruction, environment_call_from_u}
-use Rattle.xv_csr.specs.Cause.{instruction_address_misaligned}
+use Rattle.xv_csr.specs.Cause.{instruction_address_misaligned, illegal_instruction, breakpoint}
+use Rattle.xv_csr.specs.Cause.{load_address_misaligned, store_address_misaligned}
+use Rattle.xv_csr.specs.Cause.{environment_call_from_u, instruction_page_fault, load_page_fault}
+use Rattle.xv_csr.specs.Cause.{store_page_fault}
 use Rattle.xv_csr.specs.Fields.{instruction_alignment}
 use Rattle.xv_csr.specs.Pending.{chosen_interrupt}
 use Rattle.xv_csr.specs.Table.{csr_read}
@@ -17,7 +20,7 @@ use Rattle.xv_pte.specs.Sv39.{Verdict, Address, PageFault, NoEntry, verdict}
 use Rattle.xv_step.specs.Bus.{Bus, Spot, reader}
 use Rattle.xv_step.specs.State.{State, set, at_pc, view}
 use Rattle.xv_step.specs.Outcome.{Ask, TableEntry, Target, Plain, Call, Wait, Outcome, Went, Raised}
-use Rattle.xv_step.specs.Outcome.{Left, misaligned}
+use Rattle.xv_step.specs.Outcome.{Left, misaligned, page_fault}
 use Rattle.xv_step.specs.Memory as memory
 use Rattle.xv_step.specs.Perform as perform
 use Rattle.xv_step.specs.Perform.{Inputs}
@@ -35,9 +38,31 @@ AsksNext pc (Plain access gpa next) = IsNext pc next
 AsksNext pc (Call next) = IsNext pc next
 AsksNext pc (Wait next) = IsNext pc next
 
+-- the exceptions of a step
+pub data IsRaised : ℕ → Type 0 where
+  FetchMisaligned : IsRaised instruction_address_misaligned
+  Illegal : IsRaised illegal_instruction
+  Breakpoint : IsRaised breakpoint
+  LoadMisaligned : IsRaised load_address_misaligned
+  StoreMisaligned : IsRaised store_address_misaligned
+  UserCall : IsRaised environment_call_from_u
+  FetchPageFault : IsRaised instruction_page_fault
+  LoadPageFault : IsRaised load_page_fault
+  StorePageFault : IsRaised store_page_fault
+
+misaligned_raised : (access : Kind3) → IsRaised (misaligned access)
+misaligned_raised kinds.Fetch = FetchMisaligned
+misaligned_raised kinds.Load = LoadMisaligned
+misaligned_raised kinds.Store = StoreMisaligned
+
+page_fault_raised : (access : Kind3) → IsRaised (page_fault access)
+page_fault_raised kinds.Fetch = FetchPageFault
+page_fault_raised kinds.Load = LoadPageFault
+page_fault_raised kinds.Store = StorePageFault
+
 abbrev pub LeavesNext : {M P : Type 0} → (pc : ℕ) → Outcome M P → Type 0
 LeavesNext pc (Went s) = Unit {0}
-LeavesNext pc (Raised cause tval) = Unit {0}
+LeavesNext pc (Raised cause tval) = IsRaised cause
 LeavesNext pc (Left ask) = AsksNext pc ask
 
 module _ {M P : Type 0} (bus : Bus M P) (s : State M P) where
@@ -52,7 +77,7 @@ module _ {M P : Type 0} (bus : Bus M P) (s : State M P) where
     verdict_next : (v : Verdict)
         → LeavesNext s.pc (memory.by_verdict bus s access width va lacks done v)
     verdict_next (Address gpa) = spot_next gpa (memory.usable_spot access (bus.find width gpa))
-    verdict_next PageFault = tt {0}
+    verdict_next PageFault = page_fault_raised access
     verdict_next (NoEntry gpa) = tt {0}
 
     translated_next : LeavesNext s.pc (memory.translated bus s access width va lacks done)
@@ -65,7 +90,7 @@ module _ {M P : Type 0} (bus : Bus M P) (s : State M P) where
             → LeavesNext s.pc (cond aligned (memory.translated bus s access width va lacks done)
             (Raised (misaligned access) va))
         by_alignment true = translated_next
-        by_alignment false = tt {0}
+        by_alignment false = misaligned_raised access
 
   module _ (inputs : Inputs) (word next : ℕ) (is : IsNext s.pc next) where
     in_supervisor_next : (done : Outcome M P) → LeavesNext s.pc done
@@ -73,7 +98,7 @@ module _ {M P : Type 0} (bus : Bus M P) (s : State M P) where
     in_supervisor_next done leaves = by_mode s.user
       where
         by_mode : (user : Bool) → LeavesNext s.pc (cond user (Raised illegal_instruction word) done)
-        by_mode true = tt {0}
+        by_mode true = Illegal
         by_mode false = leaves
 
     environment_call_next : LeavesNext s.pc (perform.environment_call bus inputs word next s)
@@ -81,7 +106,7 @@ module _ {M P : Type 0} (bus : Bus M P) (s : State M P) where
       where
         by_mode : (user : Bool) → LeavesNext {M = M} {P = P} s.pc
             (cond user (Raised environment_call_from_u 0) (Left (Call next)))
-        by_mode true = tt {0}
+        by_mode true = UserCall
         by_mode false = is
 
     jumped_next : (target rd link : ℕ)
@@ -92,7 +117,7 @@ module _ {M P : Type 0} (bus : Bus M P) (s : State M P) where
             (cond aligned (Went (at_pc target (set rd link s)))
             (Raised instruction_address_misaligned target))
         by_alignment true = tt {0}
-        by_alignment false = tt {0}
+        by_alignment false = FetchMisaligned
 
     conditional_next : (width value rd : ℕ) (place : P)
         → LeavesNext s.pc (perform.conditional bus inputs word next s width value rd place)
@@ -108,12 +133,12 @@ module _ {M P : Type 0} (bus : Bus M P) (s : State M P) where
 
     csr_given_next : (rd old : ℕ) (csrs : Option SCsrs)
         → LeavesNext s.pc (perform.csr_given bus inputs word next s rd old csrs)
-    csr_given_next rd old None = tt {0}
+    csr_given_next rd old None = Illegal
     csr_given_next rd old (Some csrs) = tt {0}
 
     csr_changed_next : (number : ℕ) (change : CsrChange) (rd : ℕ) (old : Option ℕ)
         → LeavesNext s.pc (perform.csr_changed bus inputs word next s number change rd old)
-    csr_changed_next number change rd None = tt {0}
+    csr_changed_next number change rd None = Illegal
     csr_changed_next number change rd (Some old) =
         csr_given_next rd old (perform.new_csrs s.csrs number s.user (perform.new_value change old))
 
@@ -148,7 +173,7 @@ module _ {M P : Type 0} (bus : Bus M P) (s : State M P) where
         in_supervisor_next (perform.goes_on bus inputs word next s s) (tt {0})
     performed_next effects.Continue = tt {0}
     performed_next effects.EnvironmentCall = environment_call_next
-    performed_next effects.Breakpoint = tt {0}
+    performed_next effects.Breakpoint = Breakpoint
     performed_next effects.SupervisorReturn =
         in_supervisor_next (perform.returned_to bus inputs word next s) (tt {0})
     performed_next effects.WaitForInterrupt = in_supervisor_next (Left (Wait next)) is
@@ -156,7 +181,7 @@ module _ {M P : Type 0} (bus : Bus M P) (s : State M P) where
   module _ (inputs : Inputs) where
     executed_next : (word : ℕ) (decoded : Option Insn)
         → LeavesNext s.pc (step.executed bus inputs s word decoded)
-    executed_next word None = tt {0}
+    executed_next word None = Illegal
     executed_next word (Some i) =
         let next = next_pc s.pc word in
         performed_next inputs word next (record { word = word; is = refl })

@@ -8,5 +8,6 @@ mod RunLemmas
 mod ReadLemmas
 mod FetchLemmas
 mod FoldLemmas
+mod BegunLemmas
 mod BootLemmas
 mod JournalLemmas

@@ -1,13 +1,25 @@
 -- The hart's step over host bytes, with the monitor's answer to its trap, is the lone step of the
 -- guest's machine.
-use Rattle.std.proofs.Common.{◌≡◌, ℕ, List, [], Option, Some, None, subst, refl, sym, ap, ◌∙◌}
+use Rattle.std.proofs.Common.{◌≡◌, ℕ, Bool, true, false, cond, List, [], Option, Some, None}
+use Rattle.std.proofs.Common.{subst, refl, sym, ap, ◌∙◌}
+use Rattle.std.proofs.lemmas.Bool.{cond-true}
+use Rattle.xv_base.specs.Bits.{has_bit}
+use Rattle.xv_csr.specs.declared.Lines.{Lines}
+use Rattle.xv_hcsr.specs.declared.HCsrs.{HCsrs}
+use Rattle.xv_hcsr.specs.Delegation.{is_delegated}
+use Rattle.xv_hcsr.specs.Guest.{IsForGuest}
+use Rattle.xv_hcsr.specs.Lines.{external_line}
+use Rattle.xv_hcsr.specs.Time.{guest_time}
+use Rattle.xv_hcsr.proofs.LineLemmas.{with_lines-software, with_lines-timer, with_lines-external}
 use Rattle.xv_step.specs.State.{Held as Reservation, State, trapped}
 use Rattle.xv_step.specs.Outcome.{Ask, TableEntry, Target, Plain, Call, Wait, Outcome, Went, Raised}
 use Rattle.xv_step.specs.Outcome.{Left}
 use Rattle.xv_step.specs.Step.{step}
 use Rattle.xv_step.proofs.BusLemmas as buses
 use Rattle.xv_step.proofs.BusLemmas.{Nothing}
-use Rattle.xv_step.proofs.NextLemmas.{LeavesNext, step_next}
+use Rattle.xv_step.proofs.NextLemmas.{LeavesNext, step_next, IsRaised, FetchMisaligned, Illegal}
+use Rattle.xv_step.proofs.NextLemmas.{Breakpoint, LoadMisaligned, StoreMisaligned, UserCall}
+use Rattle.xv_step.proofs.NextLemmas.{FetchPageFault, LoadPageFault, StorePageFault}
 use Rattle.xv_hart.specs.declared.exit.Exit.{Exit}
 use Rattle.xv_hart.specs.declared.exit.Exit.TheVariants.{Done, Trap}
 use Rattle.xv_hart.specs.declared.exit.HTrap.{HTrap}
@@ -16,7 +28,8 @@ use Rattle.xv_hart.specs.declared.regs.Regs.{Regs}
 use Rattle.xv_hart.specs.Memory.{bus_of}
 use Rattle.xv_hart.specs.Window.{window_bus}
 use Rattle.xv_hart.specs.Step.{HStep, came, exit_of, state_of, inputs_of, held_of, outcome_of}
-use Rattle.xv_hart.specs.Step.{hart_step, trap_of, IsWellFormed}
+use Rattle.xv_hart.specs.Step.{hart_step, trap_of, lines_of, ended, raised, IsWellFormed}
+use Rattle.xv_hart.proofs.StepLemmas.{ssip_guest}
 use Rattle.xv_lone.specs.declared.vcpu.HartState.{HartState}
 use Rattle.xv_lone.specs.declared.vcpu.HartState.TheVariants.{Started}
 use Rattle.xv_lone.specs.Memory.{Memory, Place}
@@ -24,7 +37,8 @@ use Rattle.xv_lone.specs.Step as lone
 use Rattle.xv_lone.specs.Step.{After, OnHart, lone_bus, inputs_at, lines_at, hart_of, goes_on}
 use Rattle.xv_top.specs.declared.guest.Guest.{Guest}
 use Rattle.xv_top.specs.Guest.{plan_of, lone_of, host_end, window_of, place_at, view_of, on_hart_of}
-use Rattle.xv_top.specs.Guest.{after_of, IsOnHart, ReservedInside, SameElsewhere}
+use Rattle.xv_top.specs.Guest.{after_of, lines_of_guest, with_lines_of, IsOnHart, ReservedInside}
+use Rattle.xv_top.specs.Guest.{SameElsewhere}
 use Rattle.xv_top.specs.Monitor.{monitored}
 use Rattle.xv_top.proofs.GuestLemmas.{seen_memory, IsGoodFor, StandsIn, joined}
 use Rattle.xv_top.proofs.MonitorLemmas.{monitored_same}
@@ -32,28 +46,62 @@ use Rattle.xv_top.proofs.MonitorLemmas.{monitored_same}
 -- what a step of the hart needs, once its lines are those of this moment
 pub record IsToStep (g : Guest) (t : ℕ) (r : Regs) : Type 0 where
   pub on : IsOnHart g t r
-  pub lines : r.lines ≡ lines_at 0 t (lone_of g []) g.view
+  pub lines : lines_of r.h ≡ lines_of_guest g t
   pub formed : IsWellFormed r
 
+lines_are : (lines : Lines) (r : Regs) → lines_of (with_lines_of lines r).h ≡ lines
+lines_are lines r =
+    let software = r.csrs.ssip in
+    ap (λ timer. record { timer = timer; external = external_line (with_lines_of lines r).h })
+    (with_lines-timer software lines.timer lines.external r.h.hvip)
+    ∙ ap (λ external. record { timer = lines.timer; external = external })
+    (with_lines-external software lines.timer lines.external r.h.hvip)
+
 pub with_lines : (g : Guest) (t : ℕ) (r next : Regs)
-    → next ≡ record r { lines = lines_at 0 t (lone_of g []) g.view } → IsOnHart g t r
+    → next ≡ with_lines_of (lines_of_guest g t) r → IsOnHart g t r
     → IsWellFormed r → IsToStep g t next
 with_lines g t r next is on formed =
+    let lines = lines_of_guest g t in
+    let hvip = (with_lines_of lines r).h.hvip in
     subst (IsToStep g t) (sym is) (record {
       on = record { window = on.window; time = on.time; reserved = on.reserved };
-      lines = refl;
-      formed = record { pc = formed.pc; csrs = formed.csrs };
+      lines = lines_are lines r;
+      formed = record {
+        pc = formed.pc;
+        csrs = formed.csrs;
+        guest = ssip_guest r.h hvip formed.guest;
+        software = sym (with_lines-software r.csrs.ssip lines.timer lines.external r.h.hvip);
+      };
     })
 
 -- the monitor's answer leaves window, time and reservation
 pub on_again : (g : Guest) (t : ℕ) (stepped taken next : Regs) → IsOnHart g t stepped
-    → taken ≡ stepped → next.window ≡ taken.window → next.time ≡ taken.time → next.held ≡ taken.held
-    → IsOnHart g t next
-on_again g t stepped taken next on same window time held = record {
+    → taken ≡ stepped → next.window ≡ taken.window → next.time ≡ taken.time → next.h ≡ taken.h
+    → next.held ≡ taken.held → IsOnHart g t next
+on_again g t stepped taken next on same window time h held = record {
   window = window ∙ (ap (λ r. r.window) same ∙ on.window);
-  time = time ∙ (ap (λ r. r.time) same ∙ on.time);
+  time = ap (λ n. guest_time n next.h) time ∙ (ap (guest_time taken.time) h
+      ∙ (ap (λ r. guest_time r.time r.h) same ∙ on.time));
   reserved = subst (ReservedInside g) (sym (held ∙ ap (λ r. r.held) same)) on.reserved;
 }
+
+-- every exception of a step enters the guest
+delegated : (h : HCsrs) (cause : ℕ) → IsForGuest h → IsRaised cause → is_delegated h cause ≡ true
+unfolding is_delegated
+delegated h _ guest FetchMisaligned = ap (has_bit 0) guest.exceptions
+delegated h _ guest Illegal = ap (has_bit 2) guest.exceptions
+delegated h _ guest Breakpoint = ap (has_bit 3) guest.exceptions
+delegated h _ guest LoadMisaligned = ap (has_bit 4) guest.exceptions
+delegated h _ guest StoreMisaligned = ap (has_bit 6) guest.exceptions
+delegated h _ guest UserCall = ap (has_bit 8) guest.exceptions
+delegated h _ guest FetchPageFault = ap (has_bit 12) guest.exceptions
+delegated h _ guest LoadPageFault = ap (has_bit 13) guest.exceptions
+delegated h _ guest StorePageFault = ap (has_bit 15) guest.exceptions
+
+entered : (r : Regs) (bytes : List ℕ) (cause tval : ℕ) → IsForGuest r.h → IsRaised cause
+    → raised r bytes cause tval ≡ ended Done r (trapped cause tval (state_of r bytes))
+entered r bytes cause tval guest is =
+    cond-true (is_delegated r.h cause) _ _ (delegated r.h cause guest is)
 
 module _ (g : Guest) (t : ℕ) (first : List ℕ) where
   -- a state of the hart over host bytes, as one of the lone machine
@@ -118,7 +166,7 @@ module _ (g : Guest) (t : ℕ) (first : List ℕ) where
   -- ---- one step of the hart
 
   module _ (r : Regs) (bytes : List ℕ) (on : IsOnHart g t r)
-      (lines : r.lines ≡ lines_at 0 t (lone_of g []) g.view) (formed : IsWellFormed r)
+      (lines : lines_of r.h ≡ lines_of_guest g t) (formed : IsWellFormed r)
       (memory : IsGoodFor g first bytes) where
     abbrev s : State (List ℕ) ℕ
     s = state_of r bytes
@@ -149,7 +197,7 @@ module _ (g : Guest) (t : ℕ) (first : List ℕ) where
     inputs_are : inputs_at 0 t (lone_of g []) g.view ≡ inputs_of r
     inputs_are =
         ap (λ l. record { lines = l; time = t }) (sym lines)
-        ∙ ap (λ n. record { lines = r.lines; time = n }) (sym on.time)
+        ∙ ap (λ n. record { lines = lines_of r.h; time = n }) (sym on.time)
 
     -- the lone step, by what the host's step comes to
     lone_is : lone.stepped (plan_of g) 0 t before (view_of g r Started) ≡ lone.after (plan_of g) 0 t
@@ -180,14 +228,17 @@ module _ (g : Guest) (t : ℕ) (first : List ℕ) where
       -- a hart that made its step
       pub done_is : ((trap : HTrap) → exit ≡ Trap trap → ⊥)
           → after_of g next now Started ≡ lone.stepped (plan_of g) 0 t before (view_of g r Started)
-      done_is no_trap = by_outcome (outcome_of r bytes) step_is ∙ sym lone_is
+      done_is no_trap = by_outcome (outcome_of r bytes) next_is step_is ∙ sym lone_is
         where
-          by_outcome : (o : Outcome (List ℕ) ℕ) → came exit next now ≡ exit_of r bytes o
+          by_outcome : (o : Outcome (List ℕ) ℕ) → LeavesNext r.pc o
+              → came exit next now ≡ exit_of r bytes o
               → after_of g next now Started
               ≡ lone.after (plan_of g) 0 t before (view_of g r Started) (seen_outcome o)
-          by_outcome (Went u) e = ap (λ (h : HStep). after_state h.state Started) e
-          by_outcome (Raised cause tval) e = ap (λ (h : HStep). after_state h.state Started) e
-          by_outcome (Left ask) e =
+          by_outcome (Went u) _ e = ap (λ (h : HStep). after_state h.state Started) e
+          by_outcome (Raised cause tval) is e =
+              ap (λ (h : HStep). after_state h.state Started)
+              (e ∙ entered r bytes cause tval formed.guest is)
+          by_outcome (Left ask) _ e =
               absurd (no_trap (trap_of r.user ask) (ap (λ (h : HStep). h.exit) e))
 
       -- what the hart left, by what the monitor answers
@@ -205,8 +256,9 @@ module _ (g : Guest) (t : ℕ) (first : List ℕ) where
               trap ≡ lone.after (plan_of g) 0 t before (view_of g r Started) (seen_outcome o)
           by_outcome (Went u) _ e = let no : Trap trap ≡ Done =
               sym left ∙ ap (λ (h : HStep). h.exit) e in cc
-          by_outcome (Raised cause tval) _ e = let no : Trap trap ≡ Done =
-              sym left ∙ ap (λ (h : HStep). h.exit) e in cc
+          by_outcome (Raised cause tval) is e = let no : Trap trap ≡ Done =
+              sym left
+              ∙ ap (λ (h : HStep). h.exit) (e ∙ entered r bytes cause tval formed.guest is) in cc
           by_outcome (Left ask) is_next e =
               let same : Trap trap ≡ Trap (trap_of r.user ask) =
               sym left ∙ ap (λ (h : HStep). h.exit) e in
@@ -224,32 +276,40 @@ module _ (g : Guest) (t : ℕ) (first : List ℕ) where
       -- ---- what stands after it
 
       good_after : IsGood (state_of next now)
-      good_after = by_outcome (outcome_of r bytes) one.good step_is
+      good_after = by_outcome (outcome_of r bytes) next_is one.good step_is
         where
-          by_outcome : (o : Outcome (List ℕ) ℕ) → LeavesGood o
+          by_outcome : (o : Outcome (List ℕ) ℕ) → LeavesNext r.pc o → LeavesGood o
               → came exit next now ≡ exit_of r bytes o → IsGood (state_of next now)
-          by_outcome (Went u) leaves e = subst IsGood (sym (ap (λ (h : HStep). h.state) e)) leaves
-          by_outcome (Raised cause tval) leaves e =
-              subst IsGood (sym (ap (λ (h : HStep). h.state) e))
+          by_outcome (Went u) _ leaves e = subst IsGood (sym (ap (λ (h : HStep). h.state) e)) leaves
+          by_outcome (Raised cause tval) is leaves e =
+              subst IsGood (sym (ap (λ (h : HStep). h.state)
+              (e ∙ entered r bytes cause tval formed.guest is)))
               (record { memory = good.memory; held = good.held })
-          by_outcome (Left ask) leaves e = subst IsGood (sym (ap (λ (h : HStep). h.state) e)) good
+          by_outcome (Left ask) _ leaves e = subst IsGood (sym (ap (λ (h : HStep). h.state) e)) good
 
-      same_rest : (next.window ≡ r.window) × (next.time ≡ r.time)
-      same_rest = by_outcome (outcome_of r bytes) step_is
+      record SameRest (h : HStep) : Type 0 where
+        window : h.window ≡ r.window
+        time : guest_time h.time h.h ≡ guest_time r.time r.h
+
+      same_rest : SameRest (came exit next now)
+      same_rest = subst SameRest (sym step_is) (by_outcome (outcome_of r bytes))
         where
-          by_outcome : (o : Outcome (List ℕ) ℕ) → came exit next now ≡ exit_of r bytes o
-              → (next.window ≡ r.window) × (next.time ≡ r.time)
-          by_outcome (Went u) e =
-              (ap (λ (h : HStep). h.window) e, ap (λ (h : HStep). h.inputs.time) e)
-          by_outcome (Raised cause tval) e =
-              (ap (λ (h : HStep). h.window) e, ap (λ (h : HStep). h.inputs.time) e)
-          by_outcome (Left ask) e =
-              (ap (λ (h : HStep). h.window) e, ap (λ (h : HStep). h.inputs.time) e)
+          by_delegated : (delegated : Bool) (e f : HStep) → SameRest e → SameRest f
+              → SameRest (cond delegated e f)
+          by_delegated true e f of_e of_f = of_e
+          by_delegated false e f of_e of_f = of_f
+
+          by_outcome : (o : Outcome (List ℕ) ℕ) → SameRest (exit_of r bytes o)
+          by_outcome (Went u) = record { window = refl; time = refl }
+          by_outcome (Raised cause tval) =
+              by_delegated (is_delegated r.h cause) _ _ (record { window = refl; time = refl })
+              (record { window = refl; time = refl })
+          by_outcome (Left ask) = record { window = refl; time = refl }
 
       pub on_after : IsOnHart g t next
       on_after = record {
-        window = same_rest.0 ∙ on.window;
-        time = same_rest.1 ∙ on.time;
+        window = same_rest.window ∙ on.window;
+        time = same_rest.time ∙ on.time;
         reserved = reserved_inside next.held good_after.held;
       }
 

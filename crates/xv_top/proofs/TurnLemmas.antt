@@ -42,9 +42,9 @@ module _ (g : Guest) (t : ℕ) (first : List ℕ) where
   woken_is Suspended interrupt h = refl
   woken_is Stopped interrupt h = cc
 
-  begins : (interrupt : Bool) → may_run g.view.hart interrupt ≡ true
-      → begin 0 (lone_of g first) ≡ in_turn (regs_of_guest g t) first [] Started
-  begins interrupt may =
+  begins : (clock : ℕ) (interrupt : Bool) → may_run g.view.hart interrupt ≡ true
+      → begin 0 (lone_of g first) ≡ in_turn (regs_of_guest g clock) first [] Started
+  begins clock interrupt may =
       ap (λ state.
       record {
         on_hart =
@@ -56,12 +56,12 @@ module _ (g : Guest) (t : ℕ) (first : List ℕ) where
         begun = [];
       }) (woken_is g.view.hart interrupt may)
 
-  pub turning_starts : (interrupt : Bool) → may_run g.view.hart interrupt ≡ true
-      → IsTurning 0 (regs_of_guest g t) first []
+  pub turning_starts : (clock : ℕ) (interrupt : Bool) → may_run g.view.hart interrupt ≡ true
+      → IsTurning 0 (regs_of_guest g clock) first []
   unfolding whole_turn
-  turning_starts interrupt may = record {
+  turning_starts clock interrupt may = record {
     begun = [];
-    rest = ap (iterate (one_more (plan_of g) 0 t) 1000) (sym (begins interrupt may));
+    rest = ap (iterate (one_more (plan_of g) 0 t) 1000) (sym (begins clock interrupt may));
     pieces = NoPiece;
   }
 

@@ -5,6 +5,11 @@ use Rattle.std.specs.List.{All}
 use Rattle.xv_mem.specs.Bytes.{range}
 use Rattle.xv_csr.specs.Fields.{IsInstructionAddress}
 use Rattle.xv_csr.specs.Kept.{IsKept}
+use Rattle.xv_csr.specs.declared.Lines.{Lines}
+use Rattle.xv_hcsr.specs.declared.HCsrs.{HCsrs}
+use Rattle.xv_hcsr.specs.Guest.{guest_hcsrs}
+use Rattle.xv_hcsr.specs.Lines.{with_lines}
+use Rattle.xv_hcsr.specs.Time as hcsr
 use Rattle.xv_step.specs.State.{held_as}
 use Rattle.xv_hart.specs.declared.window.Window.{Window}
 use Rattle.xv_hart.specs.declared.regs.Held.{Held}
@@ -71,17 +76,34 @@ new_guest name plan clock = record {
 
 -- ---- its VCPU on the hart
 
--- the registers that the hart has when the guest's turn begins, at guest time t: no reservation is
--- held
-abbrev pub regs_of_guest : Guest → (t : ℕ) → Regs
-regs_of_guest g t = record {
+-- the guest's lines at guest time t, for which no byte matters
+abbrev pub lines_of_guest : Guest → (t : ℕ) → Lines
+lines_of_guest g t = lines_at 0 t (lone_of g []) g.view
+
+-- the registers with these lines of timer and interrupt controller in hvip
+abbrev pub with_lines_of : Lines → Regs → Regs
+with_lines_of lines r =
+    let hvip = with_lines r.csrs.ssip lines.timer lines.external r.h.hvip in
+    record r { h = record r.h { hvip = hvip } }
+
+-- the hypervisor CSRs behind the guest, which has root table 0 and VMID 0, at guest time t
+abbrev pub hcsrs_of_guest : Guest → (t : ℕ) → HCsrs
+hcsrs_of_guest g t =
+    let lines = lines_of_guest g t in
+    record (guest_hcsrs 0 0 (hcsr.delta_of g.birth)) {
+      hvip = with_lines g.view.csrs.ssip lines.timer lines.external 0;
+    }
+
+-- the registers that the hart has when the guest's turn begins, at a clock: no reservation is held
+abbrev pub regs_of_guest : Guest → (clock : ℕ) → Regs
+regs_of_guest g clock = record {
   x = g.view.x;
   pc = g.view.pc;
   user = g.view.user;
   csrs = g.view.csrs;
+  h = hcsrs_of_guest g (time_of g clock);
   window = window_of g;
-  lines = lines_at 0 t (lone_of g []) g.view;
-  time = t;
+  time = clock;
   held = None;
 }
 
@@ -148,7 +170,7 @@ ReservedInside g (Some held) = (host_base ≤ held.host) × (held.host + held.wi
 -- the guest's VCPU is on the hart, within a turn at guest time t
 pub record IsOnHart (g : Guest) (t : ℕ) (r : Regs) : Type 0 where
   pub window : r.window ≡ window_of g
-  pub time : r.time ≡ t
+  pub time : hcsr.guest_time r.time r.h ≡ t
   pub reserved : ReservedInside g r.held
 
 -- the trail got one more piece, of a lone step that began with these registers, through the guest's

@@ -8,28 +8,34 @@ ghost use Rattle.xv_hart.specs.Step.{IsWellFormed};
 ghost use Rattle.xv_lone.specs.Memory.{spot_at};
 ghost use Rattle.xv_lone.specs.Journal as journal;
 ghost use Rattle.xv_lone.specs.Ready as ready;
-ghost use Rattle.xv_lone.specs.Step.{lines_at, On};
+ghost use Rattle.xv_lone.specs.Step.{On};
 ghost use Rattle.xv_lone.specs.Trail.{IsTrail};
 ghost use Rattle.xv_lone.specs.Turn as turns;
 ghost use Rattle.xv_lone.specs.Vcpu.{kicked_vcpu};
 ghost use Rattle.xv_lone.specs.declared.vcpu.GuestState.TheVariants.{Running};
 ghost use Rattle.xv_top.specs.Contents.{peeked};
 ghost use Rattle.xv_top.specs.Guest.{plan_of, lone_of, time_of, new_guest, window_of};
-ghost use Rattle.xv_top.specs.Guest.{regs_of_guest, core_of};
+ghost use Rattle.xv_top.specs.Guest.{lines_of_guest, hcsrs_of_guest, regs_of_guest, core_of};
 ghost use Rattle.xv_top.specs.Guest.{turned, turn_ending, turn_begun, IsTurned, IsPlaced};
 ghost use Rattle.xv_top.specs.Guest.{SameElsewhere, host_end};
 
 use crate::layout::HOST_BASE;
 use crate::plan::BuiltPlan;
 use std::sync::ledger::Ledger;
-use xv_base::GuestName;
+use xv_base::{GuestKey, GuestName};
 use xv_csr::Lines;
 use xv_hart::{Machine, Regs, Window};
+use xv_hcsr::HCsrs;
 use xv_lone::{GuestState, HartState, TurnEnd, VcpuView};
 use xv_mem::{HostMem, Steps};
 
 /// The greatest number of lone steps in a turn.
 const TURN_STEPS: u32 = 1000;
+
+/// The one guest has the first root table and the first VMID.
+const ROOT: u8 = 0;
+
+const VMID: GuestKey = GuestKey(0);
 
 /// A live guest.
 #[derive(Clone, Copy)]
@@ -71,7 +77,7 @@ impl Guest {
 
     /// The interrupt lines of the VCPU at a guest time, as they are now.
     pub fn lines(&self, time: u64) -> Lines
-        ensures { result ≡ lines_at 0 time (lone_of self.now []) self.now.view }
+        ensures { result ≡ lines_of_guest self.now time }
     {
         Lines {
             timer: self.view.timer <= time,
@@ -113,19 +119,30 @@ impl Guest {
         }
     }
 
+    /// The hypervisor CSRs behind the guest.
+    fn hcsrs(&self, time: u64) -> HCsrs
+        ensures { result ≡ hcsrs_of_guest self.now time }
+    {
+        let mut h = HCsrs::for_guest(ROOT, VMID, 0u64.wrapping_sub(self.birth));
+        let lines = self.lines(time);
+        h.set_lines(self.view.csrs.ssip, lines.timer, lines.external);
+        h
+    }
+
     /// The registers that the hart has when the guest's turn begins.
-    fn regs(&self, time: u64) -> Regs
-        ensures { result ≡ regs_of_guest self.now time }
+    fn regs(&self, clock: u64) -> Regs
+        ensures { result ≡ regs_of_guest self.now clock }
     {
         let x = self.view.x;
+        let time = self.time(clock);
         Regs {
             x,
             pc: self.view.pc,
             user: self.view.user,
             csrs: self.view.csrs,
+            h: self.hcsrs(time),
             window: self.window(),
-            lines: self.lines(time),
-            time,
+            time: clock,
             held: None,
         }
     }
@@ -210,10 +227,9 @@ impl Guest {
         ensures size { length machine.new.mem ≡ length machine.old.mem }
         ensures fit { IsFit machine.new }
     {
-        let time = self.time(clock);
         machine.hart.clear_trail();
-        machine.hart.set_regs(&self.regs(time));
-        let state = self.run(machine, time, steps);
+        machine.hart.set_regs(&self.regs(clock));
+        let state = self.run(machine, clock, steps);
         let Regs {
             x,
             pc,
@@ -233,17 +249,18 @@ impl Guest {
     }
 
     // Lone steps, as many as a turn may have, or up to one that leaves the VCPU waiting or stopped.
-    fn run<L: Ledger>(&self, machine: &mut Machine, time: u64, steps: &mut Steps<L>) -> HartState
+    fn run<L: Ledger>(&self, machine: &mut Machine, clock: u64, steps: &mut Steps<L>) -> HartState
         requires placed { IsPlaced self.now (length machine.old.mem) }
         requires fit { IsFit machine.old }
         requires few { taken_by machine.old.hart < 2 ^ 62 }
-        requires begun { regs_of machine.old.hart ≡ regs_of_guest self.now time }
+        requires begun { regs_of machine.old.hart ≡ regs_of_guest self.now clock }
         requires trail { trail_of machine.old.hart ≡ [] }
         requires may { ready.may_run self.now.view.hart
-            (ready.has_interrupt 0 time (lone_of self.now []) self.now.view) ≡ true }
+            (ready.has_interrupt 0 (time_of self.now clock) (lone_of self.now []) self.now.view)
+            ≡ true }
 
-        ensures turn { IsTurned self.now time machine.old.mem (regs_of machine.new.hart)
-            machine.new.mem (trail_of machine.new.hart) result }
+        ensures turn { IsTurned self.now (time_of self.now clock) machine.old.mem
+            (regs_of machine.new.hart) machine.new.mem (trail_of machine.new.hart) result }
         ensures formed { IsWellFormed (regs_of machine.new.hart) }
         ensures window { All (λ r. r.window ≡ window_of self.now) (trail_of machine.new.hart) }
         ensures taken { taken_by machine.new.hart
@@ -253,6 +270,7 @@ impl Guest {
         ensures area { machine.new.area ≡ machine.old.area }
         ensures fit { IsFit machine.new }
     {
+        let time = self.time(clock);
         for _made in 0..TURN_STEPS {
             match self.lone_step(machine, time, steps) {
                 HartState::Started => {}

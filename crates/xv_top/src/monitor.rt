@@ -6,7 +6,7 @@ ghost use Rattle.xv_hart.specs.Step.{after_trap, IsWellFormed};
 ghost use Rattle.xv_lone.specs.Step as lone;
 ghost use Rattle.xv_lone.specs.Trail.{most_tries};
 ghost use Rattle.xv_top.specs.Guest.{plan_of, on_hart_of, view_of, after_of, IsPlaced, IsOnHart};
-ghost use Rattle.xv_top.specs.Guest.{Grows, SameElsewhere, host_end};
+ghost use Rattle.xv_top.specs.Guest.{with_lines_of, Grows, SameElsewhere, host_end};
 ghost use Rattle.xv_top.specs.Monitor.{monitored, ecall_word};
 ghost use Rattle.xv_lone.specs.declared.vcpu.HartState.TheVariants as states;
 ghost use Rattle.xv_top.specs.declared.guest.Guest.{Guest};
@@ -84,6 +84,7 @@ impl Guest {
             (view_of self.now regs.old states.Started) trap.now }
         ensures window { regs.new.window ≡ regs.old.window }
         ensures time { regs.new.time ≡ regs.old.time }
+        ensures h { regs.new.h ≡ regs.old.h }
         ensures held { regs.new.held ≡ regs.old.held }
         ensures formed { IsWellFormed regs.new }
     {
@@ -117,14 +118,16 @@ impl Guest {
 
 // The interrupt lines of the hart, which a step may find changed.
 fn set_lines(hart: &mut Hart, lines: Lines)
-    ensures regs { regs_of hart.new ≡ record (regs_of hart.old) { lines = lines } }
+    ensures regs { regs_of hart.new ≡ with_lines_of lines (regs_of hart.old) }
     ensures trail { trail_of hart.new ≡ trail_of hart.old }
     ensures taken { taken_by hart.new ≡ taken_by hart.old }
     ensures room { room_of hart.new ≡ room_of hart.old }
 {
-    if hart.regs().lines != lines {
+    let mut h = hart.regs().h;
+    h.set_lines(hart.regs().csrs.ssip, lines.timer, lines.external);
+    if h.hvip != hart.regs().h.hvip {
         let mut regs = *hart.regs();
-        regs.lines = lines;
+        regs.h = h;
         hart.set_regs(&regs);
     }
 }
@@ -145,7 +148,7 @@ fn call(regs: &mut Regs) -> HartState
 }
 
 // An access fault of the guest, at the instruction that made the access.
-#[tactic(auto, using(xv_hart::proofs::StepLemmas::handler_aligned))]
+#[tactic(auto, using(xv_hart::proofs::StepLemmas::entered))]
 fn fault(regs: &mut Regs, cause: u64, va: u64) -> HartState
     requires formed { IsWellFormed regs.old }
     ensures started { result ≡ HartState.Started }

@@ -1,20 +1,23 @@
 use Rattle.std.proofs.Common.{◌∙◌, None, Some, sym, ap, refl}
 use Rattle.xv_isa.specs.Operands.{decode_of}
+use Rattle.xv_csr.specs.Pending.{chosen_interrupt}
 use Rattle.xv_pte.specs.declared.access.Kind3.TheVariants as kinds
 use Rattle.xv_step.specs.Outcome.{Target}
 use Rattle.xv_step.specs.Step.{executed, at_word}
 use Rattle.xv_hart.specs.Memory.{bus_of}
 use Rattle.xv_hart.specs.Step.{exit_of, state_of, inputs_of}
-use Rattle.xv_hart.proofs.StepLemmas.{came_trapped, fetch_of, step_is}
+use Rattle.xv_hart.proofs.StepLemmas.{came_interrupted, fetch_of, step_is}
 use Rattle.xv_hart.proofs.regs.Regs.step.Goals as goal
 
 pub returns-in-Some-clause-step : goal.returns-in-Some-clause-step
 returns-in-Some-clause-step g c =
     let r = c.args.self.now in
     let bytes = c.args.mem.now in
-    came_trapped r bytes c.trap.result c.trap.new.self c.in-Some.cause 0 c.trap.ensures.done
-    c.trap.ensures.regs
-    ∙ sym (step_is r bytes (Some c.in-Some.cause) (sym c.chosen.ensures ∙ c.in-Some.is))
+    came_interrupted r bytes c.enter.result c.enter.new.self c.in-Some.cause c.enter.ensures.done
+    c.enter.ensures.regs
+    ∙ sym (step_is r bytes (Some c.in-Some.cause)
+    (ap (chosen_interrupt r.csrs r.user) (sym c.lines.ensures)
+    ∙ (sym c.chosen.ensures ∙ c.in-Some.is)))
 
 pub returns-in-Err-clause-step : goal.returns-in-Err-clause-step
 returns-in-Err-clause-step g c =
@@ -23,7 +26,8 @@ returns-in-Err-clause-step g c =
     ◌∙◌ {b = fetch_of r bytes}
     (c.in-Err.ensures.stops (Target kinds.Fetch r.pc)
     (at_word (bus_of r) (inputs_of r) (state_of r bytes)) (λ gpa. refl))
-    (sym (step_is r bytes None (sym c.chosen.ensures ∙ c.in_default.is)))
+    (sym (step_is r bytes None (ap (chosen_interrupt r.csrs r.user) (sym c.lines.ensures)
+    ∙ (sym c.chosen.ensures ∙ c.in_default.is))))
 
 pub returns-clause-step : goal.returns-clause-step
 returns-clause-step g c =
@@ -44,4 +48,5 @@ returns-clause-step g c =
     (sym (ap (exit_of r bytes)
     (c.in-Ok.ensures.reaches (Target kinds.Fetch r.pc)
     (at_word bus (inputs_of r) (state_of r bytes))))))
-    (sym (step_is r bytes None (sym c.chosen.ensures ∙ c.in_default.is)))
+    (sym (step_is r bytes None (ap (chosen_interrupt r.csrs r.user) (sym c.lines.ensures)
+    ∙ (sym c.chosen.ensures ∙ c.in_default.is))))

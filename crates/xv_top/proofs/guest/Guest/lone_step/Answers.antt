@@ -2,12 +2,20 @@ use Rattle.std.proofs.Common.{◌∙◌, subst, sym, ap}
 use Rattle.xv_hart.specs.Hart.{regs_of}
 use Rattle.xv_lone.specs.Step as lone
 use Rattle.xv_lone.specs.declared.vcpu.HartState.TheVariants.{Started}
-use Rattle.xv_top.specs.Guest.{plan_of, view_of, on_hart_of, after_of, IsOnHart}
+use Rattle.xv_top.specs.Guest.{plan_of, view_of, on_hart_of, after_of, with_lines_of, IsOnHart}
 use Rattle.xv_top.specs.Monitor.{monitored}
 use Rattle.xv_top.proofs.GuestLemmas.{good_first}
 use Rattle.xv_top.proofs.SimulationLemmas.{with_lines, done_is, trap_is, on_after, on_again}
 use Rattle.xv_top.proofs.SimulationLemmas.{elsewhere_after}
 use Rattle.xv_top.proofs.guest.Guest.lone_step.Goals as goal
+
+pub step-requires-clause-formed : goal.step-requires-clause-formed
+step-requires-clause-formed g c =
+    let guest = c.args.self.now in
+    let before = regs_of c.args.machine.now.hart in
+    let lines = c.set_lines.ensures.regs ∙ ap (λ l. with_lines_of l before) c.lines.ensures in
+    (with_lines guest c.args.time before (regs_of c.set_lines.new.hart) lines c.requires.on
+    c.requires.formed).formed
 
 pub returns-in_default-clause-stepped : goal.returns-in_default-clause-stepped
 returns-in_default-clause-stepped g c =
@@ -17,7 +25,7 @@ returns-in_default-clause-stepped g c =
     let regs = c.set_lines.ensures.regs in
     let r = regs_of c.set_lines.new.hart in
     let lines = regs
-    ∙ ap (λ l. record (regs_of c.args.machine.now.hart) { lines = l }) c.lines.ensures in
+    ∙ ap (λ l. with_lines_of l (regs_of c.args.machine.now.hart)) c.lines.ensures in
     let ready = with_lines guest t (regs_of c.args.machine.now.hart) r lines c.requires.on
     c.requires.formed in
     done_is guest t bytes r bytes ready.on ready.lines ready.formed
@@ -34,7 +42,7 @@ returns-in_default-clause-on g c =
     let regs = c.set_lines.ensures.regs in
     let r = regs_of c.set_lines.new.hart in
     let lines = regs
-    ∙ ap (λ l. record (regs_of c.args.machine.now.hart) { lines = l }) c.lines.ensures in
+    ∙ ap (λ l. with_lines_of l (regs_of c.args.machine.now.hart)) c.lines.ensures in
     let ready = with_lines guest t (regs_of c.args.machine.now.hart) r lines c.requires.on
     c.requires.formed in
     on_after guest t bytes r bytes ready.on ready.lines ready.formed
@@ -49,7 +57,7 @@ returns-in_default-clause-elsewhere g c =
     let regs = c.set_lines.ensures.regs in
     let r = regs_of c.set_lines.new.hart in
     let lines = regs
-    ∙ ap (λ l. record (regs_of c.args.machine.now.hart) { lines = l }) c.lines.ensures in
+    ∙ ap (λ l. with_lines_of l (regs_of c.args.machine.now.hart)) c.lines.ensures in
     let ready = with_lines guest t (regs_of c.args.machine.now.hart) r lines c.requires.on
     c.requires.formed in
     elsewhere_after guest t bytes r bytes ready.on ready.lines ready.formed
@@ -65,7 +73,7 @@ returns-clause-stepped g c =
     let regs = c.set_lines.ensures.regs in
     let r = regs_of c.set_lines.new.hart in
     let lines = regs
-    ∙ ap (λ l. record (regs_of c.args.machine.now.hart) { lines = l }) c.lines.ensures in
+    ∙ ap (λ l. with_lines_of l (regs_of c.args.machine.now.hart)) c.lines.ensures in
     let ready = with_lines guest t (regs_of c.args.machine.now.hart) r lines c.requires.on
     c.requires.formed in
     ap (λ x. after_of guest x now c.answer-state.result) c.set_regs.ensures.regs
@@ -86,7 +94,7 @@ returns-clause-on g c =
     let regs = c.set_lines.ensures.regs in
     let r = regs_of c.set_lines.new.hart in
     let lines = regs
-    ∙ ap (λ l. record (regs_of c.args.machine.now.hart) { lines = l }) c.lines.ensures in
+    ∙ ap (λ l. with_lines_of l (regs_of c.args.machine.now.hart)) c.lines.ensures in
     let ready = with_lines guest t (regs_of c.args.machine.now.hart) r lines c.requires.on
     c.requires.formed in
     let after = on_after guest t bytes r bytes ready.on ready.lines ready.formed
@@ -95,7 +103,7 @@ returns-clause-on g c =
     let answered : IsOnHart guest t c.answer-state.new.regs =
     on_again guest t (regs_of c.step.new.self) c.regs.result.now c.answer-state.new.regs after
     c.regs.ensures c.answer-state.ensures.window c.answer-state.ensures.time
-    c.answer-state.ensures.held in
+    c.answer-state.ensures.h c.answer-state.ensures.held in
     subst (IsOnHart guest t) (sym c.set_regs.ensures.regs) answered
 
 pub returns-clause-elsewhere : goal.returns-clause-elsewhere
@@ -106,7 +114,7 @@ returns-clause-elsewhere g c =
     let regs = c.set_lines.ensures.regs in
     let r = regs_of c.set_lines.new.hart in
     let lines = regs
-    ∙ ap (λ l. record (regs_of c.args.machine.now.hart) { lines = l }) c.lines.ensures in
+    ∙ ap (λ l. with_lines_of l (regs_of c.args.machine.now.hart)) c.lines.ensures in
     let ready = with_lines guest t (regs_of c.args.machine.now.hart) r lines c.requires.on
     c.requires.formed in
     elsewhere_after guest t bytes r bytes ready.on ready.lines ready.formed

@@ -4,8 +4,11 @@ use Rattle.std.proofs.lemmas.List.Elements.{All-nil, All-append}
 use Rattle.xv_hart.specs.Hart.{regs_of, trail_of}
 use Rattle.xv_hart.specs.Step.{IsWellFormed}
 use Rattle.xv_lone.specs.Ready.{has_interrupt}
-use Rattle.xv_top.specs.Guest.{lone_of, window_of, host_end, regs_of_guest, IsOnHart, IsPlaced}
+use Rattle.xv_lone.specs.declared.vcpu.HartState.TheVariants.{Started}
+use Rattle.xv_top.specs.Guest.{lone_of, time_of, window_of, host_end, regs_of_guest, IsOnHart}
+use Rattle.xv_top.specs.Guest.{IsPlaced, IsTurned}
 use Rattle.xv_top.proofs.GuestLemmas.{same_elsewhere, elsewhere_both}
+use Rattle.xv_top.proofs.BegunLemmas.{begun_time, begun_formed}
 use Rattle.xv_top.proofs.TurnLemmas.{IsTurning, turning_starts, turning_goes_on, turning_stops}
 use Rattle.xv_top.proofs.TurnLemmas.{turning_ends, piece_few}
 use Rattle.xv_top.proofs.guest.Guest.run.Goals as goal
@@ -14,19 +17,24 @@ pub loop-made-init : goal.loop-made-init
 loop-made-init g c =
     let guest = c.args.self.now in
     let first = c.args.machine.now.mem in
+    let clock = c.args.clock in
+    let t = c.time-time.result in
     let begun = c.requires.begun in
     let none = c.requires.trail in
     record {
-      turning = subst (λ r. IsTurning guest c.args.time first 0 r first
+      turning = subst (λ r. IsTurning guest t first 0 r first
           (trail_of c.args.machine.now.hart)) (sym begun)
-          (subst (IsTurning guest c.args.time first 0 (regs_of_guest guest c.args.time) first)
-          (sym none)
-          (turning_starts guest c.args.time first
-          (has_interrupt 0 c.args.time (lone_of guest []) guest.view) c.requires.may));
-      on = subst (IsOnHart guest c.args.time) (sym begun)
-          (record { window = refl; time = refl; reserved = tt {0} });
+          (subst (IsTurning guest t first 0 (regs_of_guest guest clock) first) (sym none)
+          (turning_starts guest t first clock
+          (has_interrupt 0 (time_of guest clock) (lone_of guest []) guest.view) c.requires.may));
+      on = subst (IsOnHart guest t) (sym begun)
+          (record {
+            window = refl;
+            time = begun_time guest clock ∙ sym c.time-time.ensures;
+            reserved = tt {0};
+          });
       formed = subst IsWellFormed (sym begun)
-          (record { pc = c.requires.placed.pc; csrs = c.requires.placed.csrs });
+          (begun_formed guest clock c.requires.placed.pc c.requires.placed.csrs);
       windows = subst (All (λ r. r.window ≡ window_of guest)) (sym none)
           (All-nil (λ r. r.window ≡ window_of guest));
       few = omega (arith, ap length none);
@@ -50,7 +58,7 @@ loop-made-preserved g c =
     let step = c.lone_step.ensures in
     let r = regs_of before.hart in
     record {
-      turning = turning_goes_on guest c.args.time first r (regs_of after.hart) before.mem after.mem
+      turning = turning_goes_on guest c.time-time.result first r (regs_of after.hart) before.mem after.mem
           c.lone_step.result step.stepped
           c.loop-made._made c.loop-made-test.true (trail_of before.hart) (trail_of after.hart)
           inv.turning step.trail c.in-Started.is;
@@ -81,10 +89,12 @@ returns-in_default g c =
     let step = c.lone_step.ensures in
     let r = regs_of before.hart in
     record {
-      turn = turning_stops guest c.args.time first r (regs_of after.hart) before.mem after.mem
-          c.lone_step.result step.stepped
+      turn = subst (λ t. IsTurned guest t first (regs_of after.hart) after.mem
+          (trail_of after.hart) c.lone_step.result) c.time-time.ensures
+          (turning_stops guest c.time-time.result first r (regs_of after.hart) before.mem
+          after.mem c.lone_step.result step.stepped
           c.loop-made._made c.loop-made-test.true (trail_of before.hart) (trail_of after.hart)
-          inv.turning step.trail c.in_default.not-Started;
+          inv.turning step.trail c.in_default.not-Started);
       formed = step.formed;
       window = subst (All (λ r. r.window ≡ window_of guest)) (sym step.trail.grown)
           (All-append (λ r. r.window ≡ window_of guest) (trail_of before.hart) step.trail.piece
@@ -106,5 +116,8 @@ pub returns-clause-turn : goal.returns-clause-turn
 returns-clause-turn g c =
     let inv = c.loop-made.invariant in
     let now = c.loop-made.machine in
-    turning_ends c.args.self.now c.args.time c.args.machine.now.mem c.loop-made._made
-    (regs_of now.hart) now.mem (trail_of now.hart) c.loop-made-test.false inv.turning
+    let first = c.args.machine.now.mem in
+    subst (λ t. IsTurned c.args.self.now t first (regs_of now.hart) now.mem (trail_of now.hart)
+    Started) c.time-time.ensures
+    (turning_ends c.args.self.now c.time-time.result first c.loop-made._made
+    (regs_of now.hart) now.mem (trail_of now.hart) c.loop-made-test.false inv.turning)

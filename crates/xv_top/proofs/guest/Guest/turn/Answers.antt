@@ -9,9 +9,7 @@ use Rattle.xv_top.proofs.guest.Guest.turn.Goals as goal
 pub run-state-requires-clause-may : goal.run-state-requires-clause-may
 run-state-requires-clause-may g c =
     let guest = c.args.self.now in
-    ap (λ t. may_run guest.view.hart (has_interrupt 0 t (lone_of guest []) guest.view))
-    c.time-time.ensures
-    ∙ (and_parts (is_running guest.state) _ c.requires.ready).1
+    (and_parts (is_running guest.state) _ c.requires.ready).1
 
 pub returns-clause-machine : goal.returns-clause-machine
 returns-clause-machine g c =
@@ -21,9 +19,7 @@ returns-clause-machine g c =
     ap (λ r. lone_of (record guest { view = view_of guest r c.run-state.result }) now.mem)
     c.regs-2.ensures
     ∙ turned_is guest c.args.clock first (regs_of now.hart) now.mem (trail_of now.hart)
-    c.run-state.result
-    (subst (λ t. IsTurned guest t first (regs_of now.hart) now.mem (trail_of now.hart)
-    c.run-state.result) c.time-time.ensures c.run-state.ensures.turn)
+    c.run-state.result c.run-state.ensures.turn
 
 pub returns-clause-ending : goal.returns-clause-ending
 returns-clause-ending g c =
@@ -32,9 +28,7 @@ returns-clause-ending g c =
     let now = c.run-state.new.machine in
     c.end_of.ensures
     ∙ ending_is guest c.args.clock first (regs_of now.hart) now.mem (trail_of now.hart)
-    c.run-state.result
-    (subst (λ t. IsTurned guest t first (regs_of now.hart) now.mem (trail_of now.hart)
-    c.run-state.result) c.time-time.ensures c.run-state.ensures.turn)
+    c.run-state.result c.run-state.ensures.turn
 
 pub returns-clause-trail : goal.returns-clause-trail
 returns-clause-trail g c =
@@ -42,6 +36,4 @@ returns-clause-trail g c =
     let first = c.args.machine.now.mem in
     let now = c.run-state.new.machine in
     trail_is guest c.args.clock first (regs_of now.hart) now.mem (trail_of now.hart)
-    c.run-state.result
-    (subst (λ t. IsTurned guest t first (regs_of now.hart) now.mem (trail_of now.hart)
-    c.run-state.result) c.time-time.ensures c.run-state.ensures.turn)
+    c.run-state.result c.run-state.ensures.turn
