@@ -105,7 +105,8 @@ unmap_all-requires g c =
     record {
       inside = subst (λ (n : ℕ). AreInside n 3 c.deref-3.result.now)
           (sym c.map.ensures.outside.whole)
-          (test-inside c.deref-3.result.now c.need-need.result 4032 is (omega arith) c.in_ok-memory.memory
+          (test-inside c.deref-3.result.now c.need-need.result 4032 is (omega arith)
+          c.in_ok-memory.memory
           whole c.args.regions.now enough (record { start = 0x100_0000; len = 0x1_0000 }) refl refl
           c.requires.sound c.in_ok-guest.ensures.faultless);
     }
