@@ -33,7 +33,7 @@ const ROOT: u8 = 3;
 type Row = (u64, Option<(u64, bool)>);
 
 /// What a guest came to: frames needed, pages led right, the first row that leads elsewhere, and
-/// how many of the rows lead somewhere once all is unmapped.
+/// how many pages are led right once all is unmapped.
 type Outcome = (u64, u64, Option<u64>, u64);
 
 fn mapped<L: Ledger>(
