@@ -1,0 +1,14 @@
+pub mod FrameLemmas
+pub mod PutLemmas
+pub mod MemoryLemmas
+pub mod ViewLemmas
+pub mod ClearLemmas
+pub mod RangeLemmas
+pub mod HeldLemmas
+pub mod ZeroLemmas
+pub mod TakeLemmas
+pub mod GiveLemmas
+pub mod OrderLemmas
+pub mod LawLemmas
+pub mod Examples
+pub mod TestPlan

@@ -1,0 +1,17 @@
+//! One guest: what it holds of a host, and the lone machine that it is over the host's bytes.
+#![tactic(auto)]
+
+mod clear;
+mod give;
+mod guest;
+mod law;
+mod ranges;
+mod take;
+mod views;
+
+pub use guest::Guest;
+pub use law::{guests_are_local, stores_are_local};
+pub use xv_lone::{GuestState, HartState, VcpuView};
+
+#[cfg(test)]
+mod tests;
