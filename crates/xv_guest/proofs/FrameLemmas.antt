@@ -6,7 +6,6 @@ use Rattle.std.specs.List.{sum_by}
 use Rattle.std.proofs.lemmas.Bool.{cases_eq, eq-eqb, ne_eqb}
 use Rattle.std.proofs.lemmas.List.Sums.{sum_by-cons, sum_by-append, sum_by-take-drop}
 use Rattle.std.proofs.lemmas.List.Sums.{get_or-le-sum_by}
-use Rattle.xv_base.specs.declared.keys.Span.{Span}
 use Rattle.xv_pool.specs.FrameList.{up_from}
 use Rattle.xv_region.specs.declared.plan.Kind.{Kind}
 use Rattle.xv_region.specs.declared.plan.Kind.TheVariants.{Ram, Rom, Reserved, Alias, Device}
@@ -14,14 +13,11 @@ use Rattle.xv_region.specs.declared.plan.Region.{Region}
 use Rattle.xv_region.specs.Need.{own_pages, own_size}
 use Rattle.xv_region.specs.Rules.{page_size}
 use Rattle.xv_gstage.specs.Own.{pages, kind_frames, region_frames, kind_reserved, reserved_frames}
-use Rattle.xv_guest.specs.Frames.{hits, range_frames, range_hits}
+use Rattle.xv_guest.specs.Frames.{hits}
 
 -- the weight of one frame
 abbrev pub hit : ℕ → ℕ → ℕ
 hit frame other = cond (other == frame) 1 0
-
-pub hits_is : (frame : ℕ) (frames : List ℕ) → hits frame frames ≡ sum_by (hit frame) frames
-hits_is frame frames = refl
 
 pub hit_same : (frame : ℕ) → hit frame frame ≡ 1
 hit_same frame = rw (eq-eqb frame frame refl) refl
@@ -91,10 +87,6 @@ hits-up_from_inside frame first (suc n) low high =
           let here = hit_other frame first apart in
           omega arith)
     ]
-
-pub range_hits-append : (frame : ℕ) (xs ys : List Span)
-    → range_hits frame (xs ++ ys) ≡ range_hits frame xs + range_hits frame ys
-range_hits-append frame xs ys = sum_by-append (λ range. hits frame (range_frames range)) xs ys
 
 -- ---- the frames under regions
 

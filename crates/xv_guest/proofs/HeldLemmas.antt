@@ -36,13 +36,6 @@ Contains-hits frame (x ∷ xs) some =
           (suc found.0, omega arith, found.2))
     ]
 
-pub hits-none : (frame : ℕ) (frames : List ℕ) → ¬ Contains frames frame → hits frame frames ≡ 0
-hits-none frame frames none =
-    elim (cases_eq (hits frame frames) 0) [
-      | inl is ↦ is
-      | inr some ↦ absurd (none (Contains-hits frame frames (omega arith)))
-    ]
-
 -- a frame from a first one on is no less, and none of the last
 pub up_from-bounds : (frame first n : ℕ) → 0 < hits frame (up_from first n)
     → (first ≤ frame) × (frame < first + n)

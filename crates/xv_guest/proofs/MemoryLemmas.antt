@@ -60,9 +60,6 @@ memory_same old new g same =
 
 module _ (bytes : List ℕ) (frame offset : ℕ) (piece : List ℕ) (inside : IsInside bytes frame)
     (fits : offset + length piece ≤ 4096) where
-  put_there : List ℕ
-  put_there = put bytes (4096 * frame + offset) piece
-
   pub frame-put : frame_bytes (put bytes (4096 * frame + offset) piece) frame
       ≡ put (frame_bytes bytes frame) offset piece
   frame-put = range-put_inside bytes (4096 * frame) 4096 offset piece fits inside

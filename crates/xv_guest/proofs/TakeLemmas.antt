@@ -1,19 +1,15 @@
 -- What a guest has after it took: its frames are apart, and its memory is zero.
 use Rattle.std.proofs.Common.{◌≡◌, ◌≢◌, ℕ, zero, suc, ◌+◌, ◌*◌, ◌/◌, ◌<◌, ◌≤◌, Bool, true}
 use Rattle.std.proofs.Common.{false, not}
-use Rattle.std.proofs.Common.{cond, nat_lt, List, [], ◌∷◌, length, get_or, take, map}
-use Rattle.std.proofs.Common.{refl, sym, ap, ◌∙◌, subst, arith, inl, inr, Some, Ok, Err, Result}
+use Rattle.std.proofs.Common.{List, [], ◌∷◌, length, get_or, take, map}
+use Rattle.std.proofs.Common.{refl, sym, ap, ◌∙◌, subst, arith, inl, inr, Some}
 use Rattle.std.specs.List.{Contains, list_any, slice_get}
-use Rattle.std.proofs.lemmas.Bool.{cases_eq, ltb-false}
+use Rattle.std.proofs.lemmas.Bool.{cases_eq}
 use Rattle.std.proofs.lemmas.Option.{get_or_from_slice_get, slice_get_within}
 use Rattle.std.proofs.lemmas.List.{length-take-le, take_all}
 use Rattle.std.proofs.lemmas.List.Sums.{position_or_len_is}
-use Rattle.xv_base.specs.declared.keys.Span.{Span}
-use Rattle.xv_base.specs.Range.{meets_one}
 use Rattle.xv_mem.proofs.Puts.{range_same}
-use Rattle.xv_pool.specs.declared.fault.PoolFault.{PoolFault}
-use Rattle.xv_pool.specs.declared.fault.PoolFault.TheVariants.{NoRoot, NoFrame, ReservedBusy}
-use Rattle.xv_pool.specs.Resources.{Resources, IsSound, all_out, tested}
+use Rattle.xv_pool.specs.Resources.{Resources, IsSound}
 use Rattle.xv_pte.specs.GStage.{frame_bytes, led}
 use Rattle.xv_region.specs.declared.plan.Kind.{Kind}
 use Rattle.xv_region.specs.declared.plan.Kind.TheVariants.{Ram, Rom, Reserved, Alias, Device}
@@ -37,28 +33,6 @@ use Rattle.xv_guest.proofs.HeldLemmas.{take-hits, once-pairs, regions-apart}
 use Rattle.xv_guest.proofs.ClearLemmas.{zero_inside, reserved-more}
 use Rattle.xv_guest.proofs.RangeLemmas.{host_apart}
 use Rattle.xv_guest.proofs.ZeroLemmas.{memory_zero}
-
--- ---- the test of a pool
-
-module _ (pool : Resources) (n : ℕ) (ranges : List Span) where
-  abbrev answer : (out few busy : Bool) → Result (Unit {0}) PoolFault
-  answer out few busy =
-      cond out (Err NoRoot)
-      (cond few (Err (NoFrame n (length pool.free))) (cond busy (Err ReservedBusy) (Ok tt)))
-
-  parts : (out few busy : Bool) → answer out few busy ≡ Ok tt
-      → (out ≡ false) × (few ≡ false) × (busy ≡ false)
-  parts true few busy is = absurd cc
-  parts false true busy is = absurd cc
-  parts false false true is = absurd cc
-  parts false false false is = (refl, refl, refl)
-
-  pub tested_parts : tested pool n ranges ≡ Ok tt → (all_out pool.roots ≡ false)
-      × (n ≤ length pool.free) × (list_any (meets_one pool.held) ranges ≡ false)
-  tested_parts is =
-      let all = parts (all_out pool.roots) (nat_lt (length pool.free) n)
-      (list_any (meets_one pool.held) ranges) is in
-      (all.0, ltb-false (length pool.free) n all.1, all.2)
 
 -- the root that a pool hands out
 pub least_is : (roots : List Bool) (root : ℕ) → slice_get roots root ≡ Some false
@@ -132,9 +106,6 @@ same_frame old new root frames frame same inside apart out =
     same.bytes (4096 * frame + i) (subst Q (sym block) apart) (subst P (sym place) out))
 
 -- what regions take of a pool
-abbrev pub taken_list : Resources → List Region → List ℕ
-taken_list pool regions = take (need regions) pool.free
-
 abbrev pub taken_held : Resources → List Region → Held
 taken_held pool regions = record {
   root = least_root pool.roots;

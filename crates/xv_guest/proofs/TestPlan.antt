@@ -1,12 +1,96 @@
--- The plan of the test keeps the rules.
-use Rattle.std.proofs.Common.{◌≡◌, None, IsTrue, refl}
+-- The plan of the tests keeps the rules, and a guest of it may take of a host in which nobody has
+-- anything, and give it back.
+use Rattle.std.proofs.Common.{◌≡◌, ℕ, ◌+◌, ◌*◌, ◌<◌, ◌≤◌, List, [], length, replicate}
+use Rattle.std.proofs.Common.{None, Ok, IsTrue, refl, sym, subst, arith}
+use Rattle.std.specs.List.{All, sum_by}
+use Rattle.std.proofs.lemmas.List.Elements.{All-nil}
+use Rattle.xv_base.specs.declared.keys.Span.{Span}
+use Rattle.xv_base.specs.Range.{LiesIn}
+use Rattle.xv_mem.proofs.Puts.{range-replicate}
+use Rattle.xv_pool.specs.FrameList.{up_from}
+use Rattle.xv_pool.specs.Resources.{Resources, fresh, tested}
+use Rattle.xv_region.specs.Need.{need}
 use Rattle.xv_region.specs.Plan.{flat}
 use Rattle.xv_region.specs.Rules.{are_sound, first_fault, fault_from}
+use Rattle.xv_gstage.specs.Memory.{IsZero}
+use Rattle.xv_gstage.specs.Own.{reserved_frames}
+use Rattle.xv_guest.specs.Frames.{hits, reserved_ranges}
+use Rattle.xv_guest.specs.Guest.{Guest, held_of, new_guest}
+use Rattle.xv_guest.specs.Held.{IsHeld}
+use Rattle.xv_guest.specs.Take.{MayTake, MayGive, pool_after, taken_guest}
+use Rattle.xv_guest.proofs.FrameLemmas.{hits-take-drop}
+use Rattle.xv_guest.proofs.HeldLemmas.{take-hits, up_from-bounds, up_from-once}
+
+abbrev pub area : Span
+area = record { start = 294912; len = 0 }
 
 pub sound : IsTrue (are_sound (flat 2).regions)
 unfolding are_sound
 sound = refl
 
-pub faultless : first_fault (record { start = 0; len = 0 }) (flat 2).regions ≡ None
+pub faultless : first_fault area (flat 2).regions ≡ None
 unfolding first_fault fault_from
 faultless = refl
+
+-- ---- frames 64 to 71, and no reserved area
+
+abbrev pub host : Resources
+host = fresh 64 8 area
+
+abbrev pub bare : Guest
+bare = new_guest (flat 2) 0
+
+no_ranges : reserved_ranges (flat 2).regions ≡ []
+unfolding reserved_ranges
+no_ranges = refl
+
+no_frames : reserved_frames (flat 2).regions ≡ []
+unfolding reserved_frames
+no_frames = refl
+
+zero_at : (frames frame : ℕ) → frame < frames → IsZero (replicate (4096 * frames) 0) frame
+zero_at frames frame low = range-replicate (4096 * frames) (4096 * frame) 4096 (omega arith)
+
+pub may_take : (frames n : ℕ) → 72 ≤ frames → Ok tt ≡ tested host n []
+    → n ≡ need (flat 2).regions
+    → MayTake (replicate (4096 * frames) 0) host (flat 2).regions
+may_take frames n enough passes is = record {
+  tested =
+      let P : List Span → Type 0 =
+      λ ranges. tested host (need (flat 2).regions) ranges ≡ Ok tt in
+      subst P (sym no_ranges)
+      (subst (λ (m : ℕ). tested host m [] ≡ Ok tt) is (sym passes));
+  room =
+      let P : List Span → Type 0 = λ ranges. length host.held + length ranges ≤ 512 in
+      subst P (sym no_ranges) (omega arith);
+  area =
+      let P : List Span → Type 0 = λ ranges. All (λ range. LiesIn range area) ranges in
+      subst P (sym no_ranges) (All-nil _);
+  root = λ frame is_root. zero_at frames frame (omega arith);
+  free = λ frame some.
+      let bounds = up_from-bounds frame 64 8 some in
+      (bounds.0, zero_at frames frame (omega arith));
+  reserved = λ frame some.
+      let P : List ℕ → Type 0 = λ xs. 0 < hits frame xs in
+      absurd (let none = subst P no_frames some in omega arith);
+}
+
+pub may_give : (bytes : List ℕ) → IsHeld bytes (held_of (taken_guest host bare))
+    → MayGive bytes (pool_after (flat 2).regions host) (taken_guest host bare)
+may_give bytes held = record {
+  taken = refl;
+  root = refl;
+  frames = λ frame some.
+      let all = take-hits frame (need (flat 2).regions) (up_from 64 8) in
+      up_from-bounds frame 64 8 (omega arith);
+  out = λ frame.
+      let parts = hits-take-drop frame (need (flat 2).regions) (up_from 64 8) in
+      let once = up_from-once frame 64 8 in
+      omega arith;
+  ranges = λ weight.
+      let P : List Span → Type 0 =
+      λ ranges. sum_by weight ranges
+      ≤ sum_by weight (pool_after (flat 2).regions host).held in
+      subst P (sym no_ranges) (omega arith);
+  inside = held.memory.inside;
+}

@@ -1,7 +1,7 @@
 -- Frames of host memory in lists: how often a list has one, and the bytes under it. A frame stands
 -- in a list of what is held where it stands there more than 0 times.
-use Rattle.std.specs.Prelude.{ℕ, ◌≡◌, ◌+◌, ◌*◌, ◌/◌, ◌<◌, ◌≤◌, ◌==◌, List, [], ◌∷◌, ◌++◌, length}
-use Rattle.std.specs.Prelude.{count_by, sum_by}
+use Rattle.std.specs.Prelude.{ℕ, ◌≡◌, ◌+◌, ◌*◌, ◌<◌, ◌≤◌, ◌==◌, List, [], ◌∷◌, ◌++◌, length}
+use Rattle.std.specs.Prelude.{count_by}
 use Rattle.std.specs.List.{flat_map}
 use Rattle.xv_base.specs.declared.keys.Span.{Span}
 use Rattle.xv_pool.specs.FrameList.{up_from}
@@ -11,7 +11,6 @@ use Rattle.xv_region.specs.declared.plan.Kind.{Kind}
 use Rattle.xv_region.specs.declared.plan.Kind.TheVariants.{Ram, Rom, Reserved, Alias, Device}
 use Rattle.xv_region.specs.declared.plan.Region.{Region}
 use Rattle.xv_region.specs.Cell.{bytes_at}
-use Rattle.xv_region.specs.Rules.{page_size}
 
 -- how often a frame stands in a list
 abbrev pub hits : ℕ → List ℕ → ℕ
@@ -20,10 +19,6 @@ hits frame frames = count_by (λ other. other == frame) frames
 -- the four frames of a root table (Privileged Architecture 20211203, 8.5.1: Sv39x4)
 abbrev pub root_frames : ℕ → List ℕ
 root_frames root = up_from (4 * root) 4
-
--- the frames of a range of whole pages
-abbrev pub range_frames : Span → List ℕ
-range_frames range = up_from (range.start / page_size) (range.len / page_size)
 
 -- the range of the host's bytes that a region of so many bytes has
 abbrev pub kind_ranges : Kind → ℕ → List Span
@@ -39,10 +34,6 @@ ranges_of r = kind_ranges r.kind r.size
 -- the ranges of the host's reserved area that a guest has, in the order of its regions
 unfoldable pub reserved_ranges : List Region → List Span
 reserved_ranges regions = flat_map ranges_of regions
-
--- how often a frame stands in such ranges
-abbrev pub range_hits : ℕ → List Span → ℕ
-range_hits frame ranges = sum_by (λ range. hits frame (range_frames range)) ranges
 
 -- the bytes of frames, one after another
 unfoldable pub bytes_under : List ℕ → List ℕ → List ℕ

@@ -11,6 +11,7 @@ mod views;
 
 pub use guest::Guest;
 pub use law::{guests_are_local, stores_are_local};
+pub use ranges::reserved_ranges;
 pub use xv_lone::{GuestState, HartState, VcpuView};
 
 #[cfg(test)]

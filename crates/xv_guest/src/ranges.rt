@@ -1,12 +1,14 @@
 //! The ranges of the host's reserved area that a guest takes and gives back.
 ghost use Rattle.std.specs.Prelude.{◌≡◌, ℕ, ◌+◌, ◌≤◌, ◌++◌, false, length, sum_by, option_to_list};
+ghost use Rattle.std.specs.Prelude.{IfOk, OnOk};
 ghost use Rattle.std.specs.List.{All, list_any};
 ghost use Rattle.xv_base.specs.declared.keys.Span.{Span};
 ghost use Rattle.xv_base.specs.Range.{LiesIn, meets_one};
 ghost use Rattle.xv_region.specs.Rules.{Accepted};
 ghost use Rattle.xv_guest.specs.Frames.{ranges_of, reserved_ranges};
 
-use xv_base::Span;
+use std::alloc::Global;
+use xv_base::{NoMemory, Span};
 use xv_pool::Pool;
 use xv_region::{Kind, Region};
 
@@ -24,6 +26,27 @@ fn range_of(region: &Region) -> Option<Span>
         Kind::Alias { target: _ } => None,
         Kind::Device(_) => None,
     }
+}
+
+/// Appends a region's range.
+fn push_range(ranges: &mut Vec<Span>, region: &Region) -> Result<(), NoMemory>
+    ensures { OnOk result (ranges.new.items ≡ ranges.old.items ++ ranges_of region.now) }
+{
+    if let Some(range) = range_of(region) {
+        ranges.push(range)?;
+    }
+    Ok(())
+}
+
+/// The host's bytes of the reserved regions, in the order of the regions.
+pub fn reserved_ranges(alloc: Global, regions: &[Region]) -> Result<Vec<Span>, NoMemory>
+    ensures { IfOk result (λ ranges. ranges.items ≡ reserved_ranges regions.now) }
+{
+    let mut ranges = Vec::new(alloc);
+    for region in regions {
+        push_range(&mut ranges, region)?;
+    }
+    Ok(ranges)
 }
 
 /// Takes a region's range, which can be had.

@@ -1,35 +1,110 @@
--- Where an access leads keeps its alignment.
-use Rattle.std.proofs.Common.{◌≡◌, ℕ, ◌%◌, ◌+◌, ◌-◌, ◌≤◌, Some}
-use Rattle.std.proofs.Common.{arith}
-use Rattle.std.proofs.lemmas.Bool.Decides.{nat_tests}
+-- Where an access leads keeps its alignment, and lies in the memory.
+use Rattle.std.proofs.Common.{◌≡◌, ℕ, ◌+◌, ◌*◌, ◌/◌, ◌%◌, ◌≤◌, List, length, Option, None}
+use Rattle.std.proofs.Common.{Some, option_map, refl, sym, ap, ◌∙◌, arith}
+use Rattle.xv_pte.specs.declared.g_stage.Leaf.{Leaf}
+use Rattle.xv_pte.specs.GStage.{walked, led}
+use Rattle.xv_pte.proofs.WalkPages.{page_of_leaf}
+use Rattle.xv_pte.specs.declared.access.Kind3.{Kind3}
+use Rattle.xv_pte.specs.Sv39.{verdict, Address}
+use Rattle.xv_step.specs.Bus.{Spot, reader}
+use Rattle.xv_step.specs.Memory.{translated, by_verdict, at_spot, usable_spot}
+use Rattle.xv_step.specs.Outcome.{Ask, Outcome}
+use Rattle.xv_step.specs.State.{view}
+use Rattle.xv_hart.specs.declared.exit.Exit.TheVariants.{Trap}
+use Rattle.xv_hart.specs.declared.exit.HTrap.{HTrap}
+use Rattle.xv_hart.specs.declared.regs.Regs.{Regs}
+use Rattle.xv_hart.specs.Memory.{bus_of}
+use Rattle.xv_hart.specs.Step.{came, exit_of, state_of, trap_of}
 use Rattle.xv_hart.specs.declared.action.Width.{Width}
 use Rattle.xv_hart.specs.declared.action.Width.TheVariants.{W1, W2, W4, W8}
-use Rattle.xv_hart.specs.declared.window.Window.{Window}
 use Rattle.xv_hart.specs.Action.{bytes_of}
-use Rattle.xv_hart.specs.Window.{host_of}
+use Rattle.xv_hart.specs.Stage.{HasStage, IsUnled, IsLedTo}
 
-offset_kept : (width : Width) (va gpa base host at : ℕ) → base % 8 ≡ 0 → host % 8 ≡ 0
-    → gpa % 4096 ≡ va % 4096 → va % bytes_of width ≡ 0 → base ≤ gpa → at ≡ host + (gpa - base)
-    → at % bytes_of width ≡ 0
-offset_kept W1 va gpa base host at b h same aligned less is = omega arith
-offset_kept W2 va gpa base host at b h same aligned less is =
-    omega (arith, b, h, same, aligned, less, is)
-offset_kept W4 va gpa base host at b h same aligned less is =
-    omega (arith, b, h, same, aligned, less, is)
-offset_kept W8 va gpa base host at b h same aligned less is =
-    omega (arith, b, h, same, aligned, less, is)
+-- a page and its frame begin at multiples of 4,096
+leaf_offset : (bytes : List ℕ) (root gpa : ℕ) (leaf : Leaf) → walked bytes root gpa ≡ Some leaf
+    → leaf.host % 4096 ≡ gpa % 4096
+leaf_offset bytes root gpa leaf e =
+    (page_of_leaf gpa (led bytes root (gpa / 4096)) leaf e).2.offset
 
-starts : (w : Window) (width gpa at : ℕ) → host_of w width gpa ≡ Some at → w.base ≤ gpa
-starts w width gpa at found = grind (arith, nat_tests)
+-- ---- the word of an entry
 
-stands : (w : Window) (width gpa at : ℕ) → host_of w width gpa ≡ Some at
-    → at ≡ w.host + (gpa - w.base)
-stands w width gpa at found = grind (arith, nat_tests)
+pub word_aligned : (bytes : List ℕ) (root gpa : ℕ) (leaf : Leaf) → gpa % 8 ≡ 0
+    → walked bytes root gpa ≡ Some leaf → leaf.host % 8 ≡ 0
+word_aligned bytes root gpa leaf aligned e =
+    let offset = leaf_offset bytes root gpa leaf e in omega (arith, offset, aligned)
 
--- a page and its frame begin at multiples of 4,096, and a window at multiples of 8
-pub aligned_at : (w : Window) (width : Width) (va gpa at : ℕ) → w.base % 8 ≡ 0 → w.host % 8 ≡ 0
-    → gpa % 4096 ≡ va % 4096 → va % bytes_of width ≡ 0 → host_of w (bytes_of width) gpa ≡ Some at
-    → at % bytes_of width ≡ 0
-aligned_at w width va gpa at b h same aligned found =
-    offset_kept width va gpa w.base w.host at b h same aligned
-    (starts w (bytes_of width) gpa at found) (stands w (bytes_of width) gpa at found)
+pub word_inside : (bytes : List ℕ) (root gpa : ℕ) (leaf : Leaf) → HasStage bytes root
+    → gpa % 8 ≡ 0 → walked bytes root gpa ≡ Some leaf → leaf.host + 8 ≤ length bytes
+word_inside bytes root gpa leaf has aligned e =
+    let offset = leaf_offset bytes root gpa leaf e in
+    let inside = has.leaves gpa leaf e in
+    omega (arith, offset, aligned, inside)
+
+-- ---- an access
+
+-- the leaf of an address that leads somewhere
+leaf_of : (to : Option Leaf) (at : ℕ) → option_map (λ leaf. leaf.host) to ≡ Some at
+    → (leaf : Leaf) × (to ≡ Some leaf) × (leaf.host ≡ at)
+leaf_of None at e = cc
+leaf_of (Some leaf) at e = (leaf, refl, some_host e)
+  where
+    some_host : Some leaf.host ≡ Some at → leaf.host ≡ at
+    some_host e = cc
+
+module _ (bytes : List ℕ) (root : ℕ) (width : Width) (va gpa at : ℕ)
+    (to : IsLedTo bytes root gpa at) where
+  pub led_aligned : gpa % 4096 ≡ va % 4096 → va % bytes_of width ≡ 0 → at % bytes_of width ≡ 0
+  led_aligned same aligned =
+      let found = leaf_of (walked bytes root gpa) at to in
+      let offset = leaf_offset bytes root gpa found.0 found.1 in
+      by_width width (let e : at % 4096 ≡ va % 4096 = omega (arith, offset, found.2, same) in e)
+      aligned
+    where
+      by_width : (w : Width) → at % 4096 ≡ va % 4096 → va % bytes_of w ≡ 0 → at % bytes_of w ≡ 0
+      by_width W1 e h = omega arith
+      by_width W2 e h = omega (arith, e, h)
+      by_width W4 e h = omega (arith, e, h)
+      by_width W8 e h = omega (arith, e, h)
+
+  pub led_inside : HasStage bytes root → at % bytes_of width ≡ 0 → at + bytes_of width ≤ length bytes
+  led_inside has aligned =
+      let found = leaf_of (walked bytes root gpa) at to in
+      let frame = has.leaves gpa found.0 found.1 in
+      by_width width
+      (let e : 4096 * (at / 4096) + 4096 ≤ length bytes = omega (arith, frame, found.2) in e)
+      aligned
+    where
+      by_width : (w : Width) → 4096 * (at / 4096) + 4096 ≤ length bytes → at % bytes_of w ≡ 0
+          → at + bytes_of w ≤ length bytes
+      by_width W1 f h = omega (arith, f)
+      by_width W2 f h = omega (arith, f, h)
+      by_width W4 f h = omega (arith, f, h)
+      by_width W8 f h = omega (arith, f, h)
+
+  pub led_not_unled : IsUnled bytes root (at / 4096) → ⊥
+  led_not_unled unled =
+      let found = leaf_of (walked bytes root gpa) at to in
+      unled gpa found.0 found.1 (ap (λ n. n / 4096) found.2)
+
+-- ---- an access that leads nowhere
+
+no_spot : (spot : Option (Spot ℕ)) → None ≡ option_map (λ spot. spot.place) spot → spot ≡ None
+no_spot None e = refl
+no_spot (Some spot) e = cc
+
+pub left_nowhere : (r : Regs) (bytes : List ℕ) (kind : Kind3) (width va gpa : ℕ)
+    (lacks : ℕ → Ask) (done : ℕ → Outcome (List ℕ) ℕ) (trap : HTrap)
+    → verdict (reader (bus_of r bytes) bytes) (view (state_of r bytes)) va kind ≡ Address gpa
+    → None ≡ option_map (λ spot. spot.place)
+    (usable_spot kind ((bus_of r bytes).find width gpa))
+    → trap_of r.user (lacks gpa) ≡ trap
+    → came (Trap trap) r bytes
+    ≡ exit_of r bytes
+    (translated (bus_of r bytes) (state_of r bytes) kind width va lacks done)
+left_nowhere r bytes kind width va gpa lacks done trap address none left =
+    let bus = bus_of r bytes in
+    let s = state_of r bytes in
+    ap (λ t. came (Trap t) r bytes) (sym left)
+    ∙ (ap (λ spot. exit_of r bytes (at_spot bus s kind width va lacks done gpa spot))
+    (sym (no_spot (usable_spot kind (bus.find width gpa)) none))
+    ∙ ap (λ v. exit_of r bytes (by_verdict bus s kind width va lacks done v)) (sym address))

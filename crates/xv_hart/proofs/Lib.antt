@@ -1,4 +1,6 @@
 pub mod AccessLemmas
+pub mod ClosedLemmas
 pub mod Fields
 pub mod StepLemmas
+pub mod UnledLemmas
 pub mod ZeroLemmas

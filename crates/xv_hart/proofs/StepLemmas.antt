@@ -1,5 +1,5 @@
 -- The step, part by part, and what it keeps.
-use Rattle.std.proofs.Common.{◌≡◌, ℕ, ◌-◌, ◌^◌, Bool, true, false, List, Option, refl, ap, ◌∙◌}
+use Rattle.std.proofs.Common.{◌≡◌, ℕ, ◌-◌, ◌^◌, Bool, true, false, cond, List, Option, refl, ap, ◌∙◌}
 use Rattle.std.proofs.Common.{arith}
 use Rattle.std.proofs.lemmas.Nat.{and_or_apart}
 use Rattle.std.proofs.lemmas.Bool.Decides.{nat_tests}
@@ -12,20 +12,22 @@ use Rattle.xv_csr.proofs.BitsLemmas.{and-and}
 use Rattle.xv_base.specs.Bits.{has_bit}
 use Rattle.xv_hcsr.specs.declared.HCsrs.{HCsrs}
 use Rattle.xv_hcsr.specs.Guest.{IsForGuest}
+use Rattle.xv_hcsr.specs.Delegation.{is_delegated}
 use Rattle.xv_hcsr.specs.Lines.{with_software}
+use Rattle.xv_hcsr.specs.Stage.{root_of}
 use Rattle.xv_hcsr.proofs.LineLemmas.{has_bit-same}
 use Rattle.xv_step.specs.State.{trapped}
-use Rattle.xv_step.specs.Outcome.{Went}
+use Rattle.xv_step.specs.Outcome.{Outcome, Went, Raised, Left}
 use Rattle.xv_step.specs.Perform.{performed}
 use Rattle.xv_step.specs.Step.{step, fetched, interrupted}
 use Rattle.xv_hart.specs.declared.action.Action.{Action}
 use Rattle.xv_hart.specs.declared.exit.Exit.{Exit}
-use Rattle.xv_hart.specs.declared.exit.Exit.TheVariants.{Done}
+use Rattle.xv_hart.specs.declared.exit.Exit.TheVariants.{Done, Trap}
 use Rattle.xv_hart.specs.declared.regs.Regs.{Regs}
 use Rattle.xv_hart.specs.Action.{action_of}
 use Rattle.xv_hart.specs.Memory.{bus_of}
 use Rattle.xv_hart.specs.Step.{HStep, came, exit_of, state_of, inputs_of, hart_step, after_trap}
-use Rattle.xv_hart.specs.Step.{lines_of}
+use Rattle.xv_hart.specs.Step.{lines_of, outcome_of, ended, but_software, exception_trap}
 
 -- every handler stands at an instruction's address
 pub handler_aligned : (csrs : SCsrs) (cause : ℕ) → IsInstructionAddress (handler csrs cause)
@@ -73,11 +75,11 @@ sepc_aligned csrs kept = omega (arith, kept.sepc)
 -- what a step comes to where the instruction asks for this
 abbrev pub done_by : Regs → List ℕ → (word next : ℕ) → Action → HStep
 done_by r bytes word next a =
-    exit_of r bytes (performed (bus_of r) (inputs_of r) word next (state_of r bytes) (action_of a))
+    exit_of r bytes (performed (bus_of r bytes) (inputs_of r) word next (state_of r bytes) (action_of a))
 
 -- what a step comes to where no interrupt is taken
 abbrev pub fetch_of : Regs → List ℕ → HStep
-fetch_of r bytes = exit_of r bytes (fetched (bus_of r) (inputs_of r) (state_of r bytes))
+fetch_of r bytes = exit_of r bytes (fetched (bus_of r bytes) (inputs_of r) (state_of r bytes))
 
 module _ (r : Regs) (bytes : List ℕ) where
   -- an interrupt
@@ -90,7 +92,26 @@ module _ (r : Regs) (bytes : List ℕ) where
   -- the step, where this interrupt is taken or none
   pub step_is : (o : Option ℕ) → chosen_interrupt r.csrs r.user (lines_of r.h) ≡ o
       → hart_step r bytes
-      ≡ exit_of r bytes (interrupted (bus_of r) (inputs_of r) (state_of r bytes) o)
+      ≡ exit_of r bytes (interrupted (bus_of r bytes) (inputs_of r) (state_of r bytes) o)
   unfolding hart_step step
   step_is o chosen =
-      ap (λ c. exit_of r bytes (interrupted (bus_of r) (inputs_of r) (state_of r bytes) c)) chosen
+      ap (λ c. exit_of r bytes (interrupted (bus_of r bytes) (inputs_of r) (state_of r bytes) c)) chosen
+
+  -- a step keeps the hypervisor CSRs, but for the line that is SSIP
+  exit_h : (o : Outcome (List ℕ) ℕ) → (exit_of r bytes o).h ≡ but_software r.h
+  exit_h (Went s) = refl
+  exit_h (Raised cause tval) =
+      by_delegated (is_delegated r.h cause) (ended Done r (trapped cause tval (state_of r bytes)))
+      (came (Trap (exception_trap r.user cause tval)) r bytes) refl refl
+    where
+      by_delegated : (b : Bool) (e f : HStep) → e.h ≡ but_software r.h → f.h ≡ but_software r.h
+          → (cond b e f).h ≡ but_software r.h
+      by_delegated true e f of_e of_f = of_e
+      by_delegated false e f of_e of_f = of_f
+  exit_h (Left ask) = refl
+
+  pub same_root : (exit : Exit) (new : Regs) (now : List ℕ)
+      → came exit new now ≡ hart_step r bytes → root_of new.h ≡ root_of r.h
+  unfolding hart_step
+  same_root exit new now e =
+      ap (λ (h : HStep). root_of h.h) e ∙ ap root_of (exit_h (outcome_of r bytes))

@@ -10,18 +10,11 @@ use Rattle.std.proofs.lemmas.Slice.Eq.{bytes_eq-Decides}
 use Rattle.std.specs.Str.{bytes_eq}
 use Rattle.xv_csr.specs.declared.SCsrs.{SCsrs}
 use Rattle.xv_hcsr.specs.declared.HCsrs.{HCsrs}
-use Rattle.xv_hart.specs.declared.window.Window.{Window}
 use Rattle.xv_hart.specs.declared.regs.Held.{Held}
 use Rattle.xv_hart.specs.declared.regs.Regs.{Regs}
 use Rattle.xv_hart.specs.declared.hart.Hart.{Hart}
 use Rattle.xv_hart.specs.Trail.{TrailState, no_trail}
 use Rattle.xv_hart.specs.Hart.{zero_regs, zero_hart}
-
-abbrev window : ℕ → ℕ → ℕ → Window
-window base size host = record { base = base; size = size; host = host }
-
-window_from : (a b d : ℕ) → a ≡ 0 → b ≡ 0 → d ≡ 0 → window a b d ≡ zero_regs.window
-window_from a b d ea eb ed = cc
 
 abbrev csrs : ℕ → ℕ → Bool → ℕ → ℕ → ℕ → ℕ → ℕ → ℕ → ℕ → ℕ → SCsrs
 csrs a b s d e f g h i j k =
@@ -61,24 +54,23 @@ hcsrs_from : (a b c d e f g h i : ℕ) → a ≡ 0 → b ≡ 0 → c ≡ 0 → d
     → h ≡ 0 → i ≡ 0 → hcsrs a b c d e f g h i ≡ zero_regs.h
 hcsrs_from a b c d e f g h i ea eb ec ed ee ef eg eh ei = cc
 
-abbrev regs : List ℕ → ℕ → Bool → SCsrs → HCsrs → Window → ℕ → Option Held → Regs
-regs x pc user c h w time held =
+abbrev regs : List ℕ → ℕ → Bool → SCsrs → HCsrs → ℕ → Option Held → Regs
+regs x pc user c h time held =
     record {
       x = x;
       pc = pc;
       user = user;
       csrs = c;
       h = h;
-      window = w;
       time = time;
       held = held;
     }
 
-regs_from : (x y : List ℕ) (pc pd : ℕ) (user used : Bool) (c d : SCsrs) (h k : HCsrs) (w v : Window)
+regs_from : (x y : List ℕ) (pc pd : ℕ) (user used : Bool) (c d : SCsrs) (h k : HCsrs)
     (time tide : ℕ) (held other : Option Held)
-    → x ≡ y → pc ≡ pd → user ≡ used → c ≡ d → h ≡ k → w ≡ v → time ≡ tide → held ≡ other
-    → regs x pc user c h w time held ≡ regs y pd used d k v tide other
-regs_from x y pc pd user used c d h k w v time tide held other ex ep eu ec el ew et eh = cc
+    → x ≡ y → pc ≡ pd → user ≡ used → c ≡ d → h ≡ k → time ≡ tide → held ≡ other
+    → regs x pc user c h time held ≡ regs y pd used d k tide other
+regs_from x y pc pd user used c d h k time tide held other ex ep eu ec el et eh = cc
 
 abbrev same_held : Held → Held → Bool
 same_held a b = eqb a.host b.host && eqb a.width b.width
@@ -145,15 +137,6 @@ csrs_zero c =
     (Decides-and _ _ (Decides-eqb c.scause 0)
     (Decides-and _ _ (Decides-eqb c.stval 0) (Decides-eqb c.satp 0)))))))))))
 
-window_zero : (w : Window)
-    → Decides (eqb w.base 0 && (eqb w.size 0 && eqb w.host 0)) (w ≡ zero_regs.window)
-window_zero w =
-    Decides-like (eqb w.base 0 && (eqb w.size 0 && eqb w.host 0))
-    (λ h. window_from w.base w.size w.host h.0 h.1.0 h.1.1)
-    (λ e. (ap (λ w. w.base) e, (ap (λ w. w.size) e, ap (λ w. w.host) e)))
-    (Decides-and _ _ (Decides-eqb w.base 0)
-    (Decides-and _ _ (Decides-eqb w.size 0) (Decides-eqb w.host 0)))
-
 abbrev same_hcsrs : HCsrs → HCsrs → Bool
 same_hcsrs h k =
     eqb h.hstatus k.hstatus
@@ -207,10 +190,7 @@ hcsrs_zero k =
 abbrev pub same : Regs → Regs → Bool
 same r s =
     bytes_eq r.x s.x && (eqb r.pc s.pc && (beq r.user s.user && (same_csrs r.csrs s.csrs
-    && (same_hcsrs r.h s.h
-    && ((eqb r.window.base s.window.base
-    && (eqb r.window.size s.window.size && eqb r.window.host s.window.host))
-    && (eqb r.time s.time && option_eq same_held r.held s.held))))))
+    && (same_hcsrs r.h s.h && (eqb r.time s.time && option_eq same_held r.held s.held)))))
 
 abbrev pub zero_test : Regs → Bool
 zero_test r = same r zero_regs
@@ -219,8 +199,7 @@ pub regs_zero : (r : Regs) → Decides (zero_test r) (r ≡ zero_regs)
 regs_zero r =
     Decides-like (zero_test r)
     (λ h. regs_from r.x zero_regs.x r.pc 0 r.user false r.csrs zero_regs.csrs r.h zero_regs.h
-    r.window zero_regs.window r.time 0 r.held None h.0 h.1.0 h.1.1.0 h.1.1.1.0
-    h.1.1.1.1.0 h.1.1.1.1.1.0 h.1.1.1.1.1.1.0 h.1.1.1.1.1.1.1)
+    r.time 0 r.held None h.0 h.1.0 h.1.1.0 h.1.1.1.0 h.1.1.1.1.0 h.1.1.1.1.1.0 h.1.1.1.1.1.1)
     (λ e. (
       ap (λ r. r.x) e,
       (
@@ -229,7 +208,7 @@ regs_zero r =
           ap (λ r. r.user) e,
           (
             ap (λ r. r.csrs) e,
-            (ap (λ r. r.h) e, (ap (λ r. r.window) e, (ap (λ r. r.time) e, ap (λ r. r.held) e))),
+            (ap (λ r. r.h) e, (ap (λ r. r.time) e, ap (λ r. r.held) e)),
           ),
         ),
       ),
@@ -239,8 +218,7 @@ regs_zero r =
     (Decides-and _ _ (booleans_Decides r.user false)
     (Decides-and _ _ (csrs_zero r.csrs)
     (Decides-and _ _ (hcsrs_zero r.h)
-    (Decides-and _ _ (window_zero r.window)
-    (Decides-and _ _ (Decides-eqb r.time 0) (held_none r.held))))))))
+    (Decides-and _ _ (Decides-eqb r.time 0) (held_none r.held)))))))
 
 -- a trail without room has no entry
 abbrev hart_at : Regs → ℕ → TrailState → Hart

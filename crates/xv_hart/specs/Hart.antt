@@ -46,7 +46,6 @@ zero_regs = record {
     htval = 0;
     htinst = 0;
   };
-  window = record { base = 0; size = 0; host = 0 };
   time = 0;
   held = None;
 }

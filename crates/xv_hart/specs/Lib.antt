@@ -1,5 +1,6 @@
 pub mod Action
-pub mod Window
+pub mod Stage
+pub mod Closed
 pub mod Memory
 pub mod Step
 pub mod Trail

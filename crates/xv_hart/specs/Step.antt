@@ -24,7 +24,6 @@ use Rattle.xv_hart.specs.declared.exit.Exit.TheVariants.{Done, Trap}
 use Rattle.xv_hart.specs.declared.exit.HTrap.{HTrap}
 use Rattle.xv_hart.specs.declared.regs.Held.{Held}
 use Rattle.xv_hart.specs.declared.regs.Regs.{Regs}
-use Rattle.xv_hart.specs.declared.window.Window.{Window}
 use Rattle.xv_hart.specs.Memory.{bus_of}
 
 -- ---- the hart's registers, as a state over host bytes
@@ -136,11 +135,10 @@ pub record HStep : Type 0 where
   pub state : State (List ℕ) ℕ
   pub h : HCsrs
   pub time : ℕ
-  pub window : Window
 
 abbrev pub ended : Exit → Regs → State (List ℕ) ℕ → HStep
 ended exit r s =
-    record { exit = exit; state = s; h = but_software r.h; time = r.time; window = r.window }
+    record { exit = exit; state = s; h = but_software r.h; time = r.time }
 
 abbrev pub came : Exit → Regs → List ℕ → HStep
 came exit r bytes = ended exit r (state_of r bytes)
@@ -159,7 +157,7 @@ exit_of r bytes (Raised cause tval) = raised r bytes cause tval
 exit_of r bytes (Left ask) = came (Trap (trap_of r.user ask)) r bytes
 
 abbrev pub outcome_of : Regs → List ℕ → Outcome (List ℕ) ℕ
-outcome_of r bytes = step (bus_of r) (inputs_of r) (state_of r bytes)
+outcome_of r bytes = step (bus_of r bytes) (inputs_of r) (state_of r bytes)
 
 unfoldable pub hart_step : Regs → List ℕ → HStep
 hart_step r bytes = exit_of r bytes (outcome_of r bytes)

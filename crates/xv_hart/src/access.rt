@@ -1,6 +1,6 @@
 //! Accesses of the hart to memory: alignment, the host address, and the bytes there.
-ghost use Rattle.std.specs.Prelude.{◌≡◌, ℕ, ◌+◌, ◌-◌, ◌*◌, ◌%◌, ◌^◌, ◌<◌, ◌≤◌};
-ghost use Rattle.std.specs.Prelude.{List, length, IfOk, IfErr};
+ghost use Rattle.std.specs.Prelude.{◌≡◌, ℕ, ◌+◌, ◌-◌, ◌*◌, ◌/◌, ◌%◌, ◌^◌, ◌<◌, ◌≤◌};
+ghost use Rattle.std.specs.Prelude.{List, length, Err, option_map, IfOk, IfErr, IfSome};
 ghost use Rattle.xv_isa.specs.Effects.{extended, low_bytes};
 ghost use Rattle.xv_mem.specs.Bytes.{word_at, put_word};
 ghost use Rattle.xv_pte.specs.Sv39.{verdict};
@@ -8,7 +8,10 @@ ghost use Rattle.xv_step.specs.Bus.{reader};
 ghost use Rattle.xv_step.specs.Outcome.{Ask, Outcome, misaligned, page_fault};
 ghost use Rattle.xv_step.specs.State.{view};
 ghost use Rattle.xv_sv39.specs.Translate.{verdict_of};
-ghost use Rattle.xv_step.specs.Memory.{accessed, translated};
+ghost use Rattle.xv_pte.specs.GStage.{walked};
+ghost use Rattle.xv_hcsr.specs.Stage.{root_of};
+ghost use Rattle.xv_step.specs.Memory.{accessed, translated, by_verdict, usable_spot};
+ghost use Rattle.xv_hart.specs.Stage.{spot_of, IsUnled, IsLedTo};
 ghost use Rattle.xv_hart.specs.Action.{bytes_of};
 ghost use Rattle.xv_hart.specs.Memory.{bus_of, HasMemory};
 ghost use Rattle.xv_hart.specs.Step.{came, exit_of, state_of, IsLeftAs};
@@ -25,7 +28,7 @@ use xv_csr::cause::{
     STORE_GUEST_PAGE_FAULT, STORE_PAGE_FAULT,
 };
 use xv_mem::{HostMem, Steps};
-use xv_pte::{Kind3, View};
+use xv_pte::{Kind3, View, walk};
 use xv_sv39::WalkFault;
 
 /// htinst of an access to an entry of a page table, of 64 bits: the pseudoinstruction of its load
@@ -163,9 +166,9 @@ impl Regs {
     ) -> Result<u64, WalkFault>
         requires formed { IsWellFormed self.now }
         requires memory { HasMemory self.now mem.now }
-        ensures verdict { verdict_of result ≡ verdict (reader (bus_of self.now) mem.now)
+        ensures verdict { verdict_of result ≡ verdict (reader (bus_of self.now mem.now) mem.now)
             (view (state_of self.now mem.now)) va kind }
-        ensures counted { steps.new ≤ steps.old + 3 }
+        ensures counted { steps.new ≤ steps.old + 12 }
     {
         // Bare, which is frequent, makes nothing for a walk, and calls nothing.
         if self.csrs.satp >> 60 == 0 {
@@ -186,9 +189,9 @@ impl Regs {
     ) -> Result<u64, WalkFault>
         requires formed { IsWellFormed self.now }
         requires memory { HasMemory self.now mem.now }
-        ensures verdict { verdict_of result ≡ verdict (reader (bus_of self.now) mem.now)
+        ensures verdict { verdict_of result ≡ verdict (reader (bus_of self.now mem.now) mem.now)
             (view (state_of self.now mem.now)) va kind }
-        ensures counted { steps.new ≤ steps.old + 3 }
+        ensures counted { steps.new ≤ steps.old + 12 }
     {
         let view = View {
             satp: self.csrs.satp,
@@ -196,7 +199,7 @@ impl Regs {
             sum: self.csrs.sum(),
             mxr: self.csrs.mxr(),
         };
-        translated(mem, self.window, &view, kind, va, steps)
+        translated(mem, self.root(), &view, kind, va, steps)
     }
 
     /// A fault of the G stage, for an access at a virtual address.
@@ -212,6 +215,46 @@ impl Regs {
             word: 0,
             user: self.user,
         })
+    }
+
+    /// The exit where a virtual address has no guest physical one.
+    #[cold]
+    fn faulted(&mut self, kind: Kind3, va: u64, fault: WalkFault) -> Exit
+        requires formed { IsWellFormed self.old }
+        ensures came { (bytes : List ℕ) (width : ℕ) (lacks : ℕ → Ask)
+            (done : ℕ → Outcome (List ℕ) ℕ) →
+            came result self.new bytes ≡ exit_of self.old bytes
+            (by_verdict (bus_of self.old bytes) (state_of self.old bytes) kind width va lacks done
+            (verdict_of (Err fault))) }
+        ensures formed { IsWellFormed self.new }
+    {
+        match fault {
+            WalkFault::Page => self.trap(page_fault(kind), va),
+            WalkFault::Entry { gpa } => self.guest_fault(kind, va, gpa, ENTRY_READ),
+        }
+    }
+
+    /// The host address that a guest physical one leads to, for an access of this kind; None where
+    /// it leads to none, or the access is a store and may not write there.
+    fn place<L: Ledger>(
+        &self,
+        mem: &HostMem,
+        kind: Kind3,
+        gpa: u64,
+        steps: &mut Steps<L>,
+    ) -> Option<u64>
+        requires formed { IsWellFormed self.now }
+        requires memory { HasMemory self.now mem.now }
+        ensures place { result ≡ option_map (λ spot. spot.place)
+            (usable_spot kind (option_map spot_of (walked mem.now (root_of self.now.h) gpa))) }
+        ensures led { IfSome result (λ at. IsLedTo mem.now (root_of self.now.h) gpa at) }
+        ensures counted { steps.new ≤ steps.old + 3 }
+    {
+        let leaf = walk(mem, self.root(), gpa, steps)?;
+        match kind {
+            Kind3::Fetch | Kind3::Load => Some(leaf.host),
+            Kind3::Store => { if leaf.writable { Some(leaf.host) } else { None } }
+        }
     }
 
     /// The host address of an aligned access to memory, or the exit where it leads to none.
@@ -230,27 +273,26 @@ impl Regs {
         ensures stays { IfOk result (λ _. self.new ≡ self.old) }
         ensures inside { IfOk result (λ at. at + bytes_of width ≤ length mem.now) }
         ensures aligned { IfOk result (λ at. at % bytes_of width ≡ 0) }
+        ensures led { IfOk result (λ at.
+            IsUnled mem.now (root_of self.old.h) (at / 4096) → ⊥) }
         ensures reaches { IfOk result (λ at.
             (lacks : ℕ → Ask) (done : ℕ → Outcome (List ℕ) ℕ) →
-            translated (bus_of self.old) (state_of self.old mem.now) kind (bytes_of width) va
-            lacks done ≡ done at) }
+            translated (bus_of self.old mem.now) (state_of self.old mem.now) kind
+            (bytes_of width) va lacks done ≡ done at) }
         ensures stops { IfErr result (λ exit.
             (lacks : ℕ → Ask) (done : ℕ → Outcome (List ℕ) ℕ) →
             IsLeftAs self.old.user kind va lacks →
             came exit self.new mem.now ≡ exit_of self.old mem.now
-            (translated (bus_of self.old) (state_of self.old mem.now) kind (bytes_of width) va
-            lacks done)) }
+            (translated (bus_of self.old mem.now) (state_of self.old mem.now) kind
+            (bytes_of width) va lacks done)) }
         ensures formed { IsWellFormed self.new }
-        ensures counted { steps.new ≤ steps.old + 3 }
+        ensures counted { steps.new ≤ steps.old + 15 }
     {
         let gpa = match self.translate(mem, kind, va, steps) {
             Ok(gpa) => gpa,
-            Err(WalkFault::Page) => return Err(self.trap(page_fault(kind), va)),
-            Err(WalkFault::Entry { gpa }) => {
-                return Err(self.guest_fault(kind, va, gpa, ENTRY_READ));
-            }
+            Err(fault) => return Err(self.faulted(kind, va, fault)),
         };
-        match self.window.host_of(width.bytes() as u64, gpa) {
+        match self.place(mem, kind, gpa, steps) {
             Some(at) => Ok(at),
             None => Err(self.guest_fault(kind, va, gpa, 0)),
         }
@@ -271,18 +313,20 @@ impl Regs {
         ensures stays { IfOk result (λ _. self.new ≡ self.old) }
         ensures inside { IfOk result (λ at. at + bytes_of width ≤ length mem.now) }
         ensures aligned { IfOk result (λ at. at % bytes_of width ≡ 0) }
+        ensures led { IfOk result (λ at.
+            IsUnled mem.now (root_of self.old.h) (at / 4096) → ⊥) }
         ensures reaches { IfOk result (λ at.
             (lacks : ℕ → Ask) (done : ℕ → Outcome (List ℕ) ℕ) →
-            accessed (bus_of self.old) (state_of self.old mem.now) kind (bytes_of width) va
-            lacks done ≡ done at) }
+            accessed (bus_of self.old mem.now) (state_of self.old mem.now) kind
+            (bytes_of width) va lacks done ≡ done at) }
         ensures stops { IfErr result (λ exit.
             (lacks : ℕ → Ask) (done : ℕ → Outcome (List ℕ) ℕ) →
             IsLeftAs self.old.user kind va lacks →
             came exit self.new mem.now ≡ exit_of self.old mem.now
-            (accessed (bus_of self.old) (state_of self.old mem.now) kind (bytes_of width) va
-            lacks done)) }
+            (accessed (bus_of self.old mem.now) (state_of self.old mem.now) kind
+            (bytes_of width) va lacks done)) }
         ensures formed { IsWellFormed self.new }
-        ensures counted { steps.new ≤ steps.old + 3 }
+        ensures counted { steps.new ≤ steps.old + 15 }
     {
         if va % width.bytes() as u64 != 0 {
             return Err(self.trap(misaligned(kind), va));

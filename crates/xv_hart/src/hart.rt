@@ -27,6 +27,9 @@ impl Hart {
     ghost use Rattle.xv_hart.specs.Hart.{zero_hart, trail_room};
     ghost use Rattle.xv_hart.specs.Step.{hart_step, came, IsWellFormed};
     ghost use Rattle.xv_hart.specs.Memory.{HasMemory};
+    ghost use Rattle.xv_hart.specs.Stage.{SameUnled, OwnGround};
+    ghost use Rattle.xv_hcsr.specs.Stage.{root_of};
+    ghost use Rattle.xv_pte.specs.GStage.{SameTables};
 
     /// A hart of zeros that has taken no step.
     pub(crate) fn zero() -> Hart
@@ -105,8 +108,12 @@ impl Hart {
     }
 
     /// One step over host memory: an interrupt, an instruction, or its exception. It counts, and
-    /// the trail grows, also where the step is left to the monitor. The window has to lie in host
-    /// memory, and the trail needs room for one more entry.
+    /// the trail grows, also where the step is left to the monitor. The tables of the root that
+    /// hgatp names have to lie in host memory with all that they lead to, and the trail needs room
+    /// for one more entry.
+    ///
+    /// It changes bytes alone to which that root leads. So where the root leads to none of its own
+    /// tables they stay, and lie in memory as before.
     pub fn step<L: Ledger>(&mut self, mem: &mut HostMem, steps: &mut Steps<L>) -> Exit
         requires room { length (trail_of self.old) < room_of self.old }
         requires formed { IsWellFormed (regs_of self.old) }
@@ -120,6 +127,13 @@ impl Hart {
         ensures trail { trail_of self.new ≡ trail_of self.old ++ regs_of self.old ∷ [] }
         ensures room { room_of self.new ≡ room_of self.old }
         ensures size { length mem.new ≡ length mem.old }
+        ensures outside { SameUnled mem.old mem.new (root_of (regs_of self.old).h) }
+        ensures tables { OwnGround mem.old (root_of (regs_of self.old).h) →
+            SameTables mem.old mem.new (root_of (regs_of self.old).h) }
+        ensures ground { OwnGround mem.old (root_of (regs_of self.old).h) →
+            OwnGround mem.new (root_of (regs_of self.old).h) }
+        ensures memory { OwnGround mem.old (root_of (regs_of self.old).h) →
+            HasMemory (regs_of self.new) mem.new }
         ensures counted { steps.new ≤ steps.old + 50 }
     {
         self.trail.push(&self.regs);

@@ -1,11 +1,13 @@
 //! What the rows that access memory do: loads, stores and atomics (Unprivileged ISA 20191213, 2.6,
 //! 5.3 and chapter 8).
-ghost use Rattle.std.specs.Prelude.{◌≡◌, ℕ, ◌+◌, ◌*◌, ◌^◌, ◌<◌, ◌≤◌, length};
+ghost use Rattle.std.specs.Prelude.{◌≡◌, ℕ, ◌+◌, ◌*◌, ◌^◌, ◌<◌, ◌≤◌, [], length};
 ghost use Rattle.xv_isa.specs.Effects as effects;
 ghost use Rattle.xv_csr.specs.Fields.{IsInstructionAddress};
 ghost use Rattle.xv_step.specs.Perform as perform;
 ghost use Rattle.xv_hart.specs.Action.{bytes_of};
+ghost use Rattle.xv_hcsr.specs.Stage.{root_of};
 ghost use Rattle.xv_hart.specs.Memory.{bus_of, HasMemory};
+ghost use Rattle.xv_hart.specs.Stage.{SameUnled};
 ghost use Rattle.xv_hart.specs.Step.{came, exit_of, state_of, inputs_of, held_of, IsWellFormed};
 
 use crate::access::{extended, low_bytes, read, write};
@@ -36,11 +38,11 @@ impl Regs {
         requires rd { rd < 32 }
         ensures came { (word : ℕ) →
             came result self.new mem.now ≡ exit_of self.old mem.now
-            (perform.plain (bus_of self.old) (inputs_of self.old) word next
+            (perform.plain (bus_of self.old mem.now) (inputs_of self.old) word next
             (state_of self.old mem.now)
             (effects.Load (bytes_of width) signed va rd)) }
         ensures formed { IsWellFormed self.new }
-        ensures counted { steps.new ≤ steps.old + 4 }
+        ensures counted { steps.new ≤ steps.old + 16 }
     {
         let at = match self.access(mem, Kind3::Load, width, va, steps) {
             Ok(at) => at,
@@ -67,12 +69,13 @@ impl Regs {
         requires small { value < 2 ^ (8 * bytes_of width) }
         ensures came { (word : ℕ) →
             came result self.new mem.new ≡ exit_of self.old mem.old
-            (perform.plain (bus_of self.old) (inputs_of self.old) word next
+            (perform.plain (bus_of self.old mem.old) (inputs_of self.old) word next
             (state_of self.old mem.old)
             (effects.Store (bytes_of width) va value)) }
         ensures formed { IsWellFormed self.new }
         ensures size { length mem.new ≡ length mem.old }
-        ensures counted { steps.new ≤ steps.old + 4 }
+        ensures outside { SameUnled mem.old mem.new (root_of self.old.h) }
+        ensures counted { steps.new ≤ steps.old + 16 }
     {
         let at = match self.access(mem, Kind3::Store, width, va, steps) {
             Ok(at) => at,
@@ -98,11 +101,11 @@ impl Regs {
         requires rd { rd < 32 }
         ensures came { (word : ℕ) →
             came result self.new mem.now ≡ exit_of self.old mem.now
-            (perform.performed (bus_of self.old) (inputs_of self.old) word next
+            (perform.performed (bus_of self.old mem.now) (inputs_of self.old) word next
             (state_of self.old mem.now)
             (effects.LoadReserved (bytes_of width) va rd)) }
         ensures formed { IsWellFormed self.new }
-        ensures counted { steps.new ≤ steps.old + 4 }
+        ensures counted { steps.new ≤ steps.old + 16 }
     {
         let at = match self.access(mem, Kind3::Load, width, va, steps) {
             Ok(at) => at,
@@ -136,12 +139,13 @@ impl Regs {
         requires small { value < 2 ^ (8 * bytes_of width) }
         ensures came { (word : ℕ) →
             came result self.new mem.new ≡ exit_of self.old mem.old
-            (perform.performed (bus_of self.old) (inputs_of self.old) word next
+            (perform.performed (bus_of self.old mem.old) (inputs_of self.old) word next
             (state_of self.old mem.old)
             (effects.StoreConditional (bytes_of width) va value rd)) }
         ensures formed { IsWellFormed self.new }
         ensures size { length mem.new ≡ length mem.old }
-        ensures counted { steps.new ≤ steps.old + 4 }
+        ensures outside { SameUnled mem.old mem.new (root_of self.old.h) }
+        ensures counted { steps.new ≤ steps.old + 16 }
     {
         let at = match self.access(mem, Kind3::Store, width, va, steps) {
             Ok(at) => at,
@@ -160,7 +164,7 @@ impl Regs {
 
     // Whether the reservation is of these bytes.
     fn is_reserved(&self, width: Width, at: u64) -> bool
-        ensures { result ≡ perform.is_reserved (bus_of self.now) (bytes_of width) at
+        ensures { result ≡ perform.is_reserved (bus_of self.now []) (bytes_of width) at
             (held_of self.now.held) }
     {
         match self.held {
@@ -188,12 +192,13 @@ impl Regs {
         requires rd { rd < 32 }
         ensures came { (word : ℕ) →
             came result self.new mem.new ≡ exit_of self.old mem.old
-            (perform.performed (bus_of self.old) (inputs_of self.old) word next
+            (perform.performed (bus_of self.old mem.old) (inputs_of self.old) word next
             (state_of self.old mem.old)
             (effects.Modify op (bytes_of width) va value rd)) }
         ensures formed { IsWellFormed self.new }
         ensures size { length mem.new ≡ length mem.old }
-        ensures counted { steps.new ≤ steps.old + 5 }
+        ensures outside { SameUnled mem.old mem.new (root_of self.old.h) }
+        ensures counted { steps.new ≤ steps.old + 17 }
     {
         let at = match self.access(mem, Kind3::Store, width, va, steps) {
             Ok(at) => at,

@@ -5,7 +5,9 @@ ghost use Rattle.xv_csr.specs.Fields.{IsInstructionAddress};
 ghost use Rattle.xv_step.specs.Perform as perform;
 ghost use Rattle.xv_step.specs.Step as step;
 ghost use Rattle.xv_hart.specs.Action.{action_of, Fits};
+ghost use Rattle.xv_hcsr.specs.Stage.{root_of};
 ghost use Rattle.xv_hart.specs.Memory.{bus_of, HasMemory};
+ghost use Rattle.xv_hart.specs.Stage.{SameUnled};
 ghost use Rattle.xv_hart.specs.Step.{came, exit_of, state_of, inputs_of, hart_step, IsWellFormed};
 
 use crate::action::{Action, Width};
@@ -26,7 +28,8 @@ impl Regs {
         ensures step { came result self.new mem.new ≡ hart_step self.old mem.old }
         ensures formed { IsWellFormed self.new }
         ensures size { length mem.new ≡ length mem.old }
-        ensures counted { steps.new ≤ steps.old + 9 }
+        ensures outside { SameUnled mem.old mem.new (root_of self.old.h) }
+        ensures counted { steps.new ≤ steps.old + 33 }
     {
         if let Some(cause) = chosen(&self.csrs, self.user, self.lines()) {
             return self.enter(cause, 0);
@@ -44,12 +47,13 @@ impl Regs {
         requires formed { IsWellFormed self.old }
         requires memory { HasMemory self.old mem.old }
         ensures came { came result self.new mem.new ≡ exit_of self.old mem.old
-            (step.executed (bus_of self.old) (inputs_of self.old)
+            (step.executed (bus_of self.old mem.old) (inputs_of self.old)
             (state_of self.old mem.old) word
             (decode_of word)) }
         ensures formed { IsWellFormed self.new }
         ensures size { length mem.new ≡ length mem.old }
-        ensures counted { steps.new ≤ steps.old + 5 }
+        ensures outside { SameUnled mem.old mem.new (root_of self.old.h) }
+        ensures counted { steps.new ≤ steps.old + 17 }
     {
         let Some(insn) = decode(word) else {
             return self.illegal(word);
@@ -73,11 +77,12 @@ impl Regs {
         requires next { IsInstructionAddress next }
         requires fits { Fits action }
         ensures came { came result self.new mem.new ≡ exit_of self.old mem.old
-            (perform.performed (bus_of self.old) (inputs_of self.old) word next
+            (perform.performed (bus_of self.old mem.old) (inputs_of self.old) word next
             (state_of self.old mem.old) (action_of action)) }
         ensures formed { IsWellFormed self.new }
         ensures size { length mem.new ≡ length mem.old }
-        ensures counted { steps.new ≤ steps.old + 5 }
+        ensures outside { SameUnled mem.old mem.new (root_of self.old.h) }
+        ensures counted { steps.new ≤ steps.old + 17 }
     {
         match action {
             Action::Set { rd, value } => {

@@ -2,14 +2,14 @@
 ghost use Rattle.std.specs.Prelude.{◌≡◌, ◌<◌, ◌↔◌, ℕ, List, IsTrue};
 ghost use Rattle.xv_step.specs.State.{with_register};
 ghost use Rattle.xv_hart.specs.Hart.{zero_regs};
+ghost use Rattle.xv_hcsr.specs.Guest.{IsForGuest};
+ghost use Rattle.xv_hcsr.specs.Stage.{root_of};
 ghost use Rattle.xv_hcsr.specs.Time.{guest_time};
-ghost use Rattle.xv_step.specs.Outcome.{Raised, Went};
-ghost use Rattle.xv_step.specs.State.{trapped};
-ghost use Rattle.xv_hart.specs.Step.{came, exit_of, state_of, lines_of, IsWellFormed};
+ghost use Rattle.xv_step.specs.Outcome.{Raised};
+ghost use Rattle.xv_hart.specs.Step.{came, exit_of, lines_of, IsWellFormed};
 ghost use Rattle.xv_hart.specs.Step.{after_trap, exception_trap, with_ssip_of};
 
 use crate::exit::{Exit, HTrap};
-use crate::window::Window;
 use xv_base::has_bit;
 use xv_csr::{Lines, SCsrs};
 use xv_hcsr::HCsrs;
@@ -43,8 +43,6 @@ pub struct Regs {
     pub csrs: SCsrs,
     /// The hypervisor CSRs of its guest.
     pub h: HCsrs,
-    /// Where the guest's memory lies.
-    pub window: Window,
     /// The host's clock. The counter `time` reads it with htimedelta added.
     pub time: u64,
     /// The reservation, if there is one.
@@ -84,11 +82,6 @@ impl Regs {
                 htval: 0,
                 htinst: 0,
             },
-            window: Window {
-                base: 0,
-                size: 0,
-                host: 0,
-            },
             time: 0,
             held: None,
         }
@@ -118,6 +111,14 @@ impl Regs {
     {
         self.pc = next;
         Exit::Done
+    }
+
+    /// The number of the root table that hgatp names.
+    pub(crate) fn root(&self) -> u8
+        requires { IsForGuest self.now.h }
+        ensures { result ≡ root_of self.now.h }
+    {
+        (self.h.hgatp % (1 << 44) / 4) as u8
     }
 
     /// The guest's timer and interrupt controller, as hvip has their lines.

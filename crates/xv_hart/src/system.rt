@@ -55,7 +55,7 @@ impl Regs {
         requires rd { rd < 32 }
         ensures came { (bytes : List ℕ) (word next : ℕ) →
             came result self.new bytes ≡ exit_of self.old bytes
-            (perform.jumped (bus_of self.old) (inputs_of self.old) word next
+            (perform.jumped (bus_of self.old bytes) (inputs_of self.old) word next
             (state_of self.old bytes) target rd link) }
         ensures formed { IsWellFormed self.new }
     {
@@ -82,7 +82,7 @@ impl Regs {
         requires rd { rd < 32 }
         ensures came { (bytes : List ℕ) →
             came result self.new bytes ≡ exit_of self.old bytes
-            (perform.csr (bus_of self.old) (inputs_of self.old) word next
+            (perform.csr (bus_of self.old bytes) (inputs_of self.old) word next
             (state_of self.old bytes) number (change_of change) rd) }
         ensures formed { IsWellFormed self.new }
     {
@@ -106,7 +106,7 @@ impl Regs {
         requires formed { IsWellFormed self.old }
         ensures came { (bytes : List ℕ) (word next : ℕ) →
             came result self.new bytes ≡ exit_of self.old bytes
-            (perform.environment_call (bus_of self.old) (inputs_of self.old) word next
+            (perform.environment_call (bus_of self.old bytes) (inputs_of self.old) word next
             (state_of self.old bytes)) }
         ensures formed { IsWellFormed self.new }
     {
@@ -132,7 +132,7 @@ impl Regs {
         requires formed { IsWellFormed self.old }
         ensures came { (bytes : List ℕ) (next : ℕ) →
             came result self.new bytes ≡ exit_of self.old bytes
-            (perform.performed (bus_of self.old) (inputs_of self.old) word next
+            (perform.performed (bus_of self.old bytes) (inputs_of self.old) word next
             (state_of self.old bytes)
             effects.SupervisorReturn) }
         ensures formed { IsWellFormed self.new }
@@ -151,7 +151,7 @@ impl Regs {
         requires formed { IsWellFormed self.old }
         ensures came { (bytes : List ℕ) (next : ℕ) →
             came result self.new bytes ≡ exit_of self.old bytes
-            (perform.performed (bus_of self.old) (inputs_of self.old) word next
+            (perform.performed (bus_of self.old bytes) (inputs_of self.old) word next
             (state_of self.old bytes)
             effects.WaitForInterrupt) }
         ensures formed { IsWellFormed self.new }
@@ -168,7 +168,7 @@ impl Regs {
         requires next { IsInstructionAddress next }
         ensures came { (bytes : List ℕ) →
             came result self.new bytes ≡ exit_of self.old bytes
-            (perform.performed (bus_of self.old) (inputs_of self.old) word next
+            (perform.performed (bus_of self.old bytes) (inputs_of self.old) word next
             (state_of self.old bytes)
             effects.FenceTranslations) }
         ensures formed { IsWellFormed self.new }

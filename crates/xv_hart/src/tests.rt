@@ -1,12 +1,14 @@
-//! A machine that is fitted, and single steps of its hart over a window of its memory.
-ghost use Rattle.std.specs.Prelude.{◌≡◌, ◌≤◌, ◌<◌, [], length, IfOk};
+//! A machine that is fitted, and single steps of its hart over tables in its memory.
+ghost use Rattle.std.specs.Prelude.{◌≡◌, ◌*◌, ◌≤◌, ◌<◌, false, [], length, IfOk};
 ghost use Rattle.xv_csr.specs.Kept.{IsKept};
 ghost use Rattle.xv_hart.specs.Hart.{taken_by, trail_of};
 ghost use Rattle.xv_hart.specs.Machine.{IsFit};
 ghost use Rattle.xv_hart.specs.Step.{IsWellFormed};
-ghost use Rattle.xv_hart.specs.Window.{IsWindowIn};
+ghost use Rattle.xv_pte.specs.GStage.{entry_of};
+ghost use Rattle.xv_hart.specs.Closed.{IsClosed, NamesInside};
+ghost use Rattle.xv_hcsr.specs.Stage.{root_of};
 
-use crate::{Exit, HTrap, Held, Machine, Regs, Window};
+use crate::{Exit, HTrap, Held, Machine, Regs};
 use std::alloc::Global;
 use std::marker::Brand;
 use std::sync::ledger::{Blank, Ledger};
@@ -14,10 +16,11 @@ use std::test::Fail;
 use xv_base::{GuestKey, NoMemory, Span};
 use xv_csr::SCsrs;
 use xv_hcsr::HCsrs;
-use xv_mem::Steps;
+use xv_mem::{HostMem, Steps};
+use xv_pte::{GEntry, g_entry_of};
 
-/// The instruction, eight bytes of data, the handler of traps, and where SRET leads, all in the
-/// window; and an address outside of it.
+/// The instruction, eight bytes of data, the handler of traps, and where SRET leads, all in one page
+/// of RAM; and an address that leads nowhere.
 const PC: u64 = 0x8000_0000;
 
 const DATA: u64 = 0x8000_0100;
@@ -28,10 +31,30 @@ const RETURN: u64 = 0x8000_0800;
 
 const OUTSIDE: u64 = 0x9000_0000;
 
+/// A page of ROM.
+const ROM: u64 = 0x8000_2000;
+
 /// The host addresses of the instruction and of the data.
 const HOST_PC: u64 = 0x10_0000;
 
 const HOST_DATA: u64 = 0x10_0100;
+
+/// The root table is frames 12 to 15, the middle one frame 16, the last one frame 17.
+const ROOT: u8 = 3;
+
+/// Words of host memory and their slots. Pages 0x80000 to 0x80005 are frames 0x100 to 0x105, one of
+/// them ROM; the other pages of their 2 MiB lead nowhere, and the 2 MiB behind them are one leaf.
+const STAGE: [(u64, u64); 9] = [
+    (2048 * 3 + 2, (16 << 10) | 0x01),
+    (512 * 16, (17 << 10) | 0x01),
+    (512 * 16 + 1, (0x400 << 10) | 0xDF),
+    (512 * 17, (0x100 << 10) | 0xDF),
+    (512 * 17 + 1, (0x101 << 10) | 0xDF),
+    (512 * 17 + 2, (0x102 << 10) | 0x5B),
+    (512 * 17 + 3, (0x103 << 10) | 0xDF),
+    (512 * 17 + 4, (0x104 << 10) | 0xDF),
+    (512 * 17 + 5, (0x105 << 10) | 0xDF),
+];
 
 /// The data before each step.
 const OLD: u64 = 0x0123_4567_89ab_cdef;
@@ -59,6 +82,14 @@ const SC_W: u32 = 0x1855_24af;
 
 /// The word of `sc.d x9, x5, (x10)`.
 const SC_D: u32 = 0x1855_34af;
+
+/// The words of `lw x13, 0(x14)` and `sw x13, 0(x14)`.
+const LW: u32 = 0x0007_2683;
+
+const SW: u32 = 0x00d7_2023;
+
+/// htinst of an entry's read.
+const ENTRY: u64 = 0x3000;
 
 /// The word of `ecall`.
 const ECALL: u32 = 0x0000_0073;
@@ -107,10 +138,10 @@ fn csrs() -> SCsrs
     }
 }
 
-/// The registers before each step. The last four bytes of the window are half of eight.
+/// The registers before each step.
 fn before() -> Regs
     ensures formed { IsWellFormed result }
-    ensures window { IsWindowIn 0x80_0000 result.window }
+    ensures root { root_of result.h ≡ 3 }
     ensures ssip { result.csrs.ssip ≡ false }
 {
     let mut x = [0; 32];
@@ -119,18 +150,13 @@ fn before() -> Regs
     x[9] = 7;
     x[10] = DATA;
     x[14] = OUTSIDE;
-    x[15] = 0x8000_1000;
+    x[15] = ROM;
     Regs {
         x,
         pc: PC,
         user: false,
         csrs: csrs(),
-        h: HCsrs::for_guest(3, GuestKey(5), DELTA),
-        window: Window {
-            base: PC,
-            size: 0x1004,
-            host: HOST_PC,
-        },
+        h: HCsrs::for_guest(ROOT, GuestKey(5), DELTA),
         time: CLOCK,
         held: None,
     }
@@ -140,6 +166,7 @@ fn fitted(alloc: Global, mib: u32) -> Result<Machine, NoMemory>
     requires least { 8 ≤ mib }
     requires most { mib ≤ 512 }
     ensures memory { IfOk result (λ machine. 0x80_0000 ≤ length machine.mem) }
+    ensures closed { IfOk result (λ machine. IsClosed machine.mem) }
     ensures fit { IfOk result (λ machine. IsFit machine) }
     ensures taken { IfOk result (λ machine. taken_by machine.hart ≡ 0) }
     ensures trail { IfOk result (λ machine. trail_of machine.hart ≡ []) }
@@ -147,6 +174,44 @@ fn fitted(alloc: Global, mib: u32) -> Result<Machine, NoMemory>
     let mut machine = Machine::bare();
     machine.fit(alloc, mib, 2)?;
     Ok(machine)
+}
+
+/// Whether a word is a pointer or a leaf out of a memory of so many frames.
+fn leads_out(word: u64, frames: u64) -> bool
+    ensures { result ≡ false → NamesInside (4096 * frames) (entry_of word) }
+{
+    match g_entry_of(word) {
+        GEntry::Pointer(table) => table >= frames,
+        GEntry::Page(mapping) => mapping.frame + 512 > frames,
+        GEntry::Nothing => false,
+    }
+}
+
+/// Stores a word, unless it has no slot, or is a pointer or a leaf out of the memory.
+fn store<L: Ledger>(memory: &mut HostMem, slot: u64, word: u64, steps: &mut Steps<L>)
+    requires { IsClosed memory.old }
+    ensures closed { IsClosed memory.new }
+    ensures len { length memory.new ≡ length memory.old }
+{
+    let frames = memory.frames() as u64;
+    if slot >= 512 * frames {
+        return;
+    }
+    if leads_out(word, frames) {
+        return;
+    }
+    memory.write64(8 * slot, word, steps);
+}
+
+/// Stores words, each in its slot.
+fn store_all<L: Ledger>(memory: &mut HostMem, words: &[(u64, u64)], steps: &mut Steps<L>)
+    requires { IsClosed memory.old }
+    ensures closed { IsClosed memory.new }
+    ensures len { length memory.new ≡ length memory.old }
+{
+    for (slot, word) in words {
+        store(memory, *slot, *word, steps);
+    }
 }
 
 /// What a step came to, the machine then, and the data.
@@ -157,7 +222,7 @@ struct After {
     data: u64,
 }
 
-/// One step from these registers, over one instruction and the data `OLD`.
+/// One step from these registers, over one instruction, the data `OLD`, and the guest's own tables.
 fn step_from<L: Ledger>(
     alloc: Global,
     regs: &Regs,
@@ -165,15 +230,17 @@ fn step_from<L: Ledger>(
     blank: Blank,
 ) -> Result<After, NoMemory>
     requires formed { IsWellFormed regs.now }
-    requires window { IsWindowIn 0x80_0000 regs.now.window }
+    requires root { root_of regs.now.h ≡ 3 }
     requires name { blank.name ≡ L.name }
     requires parts { blank.parts ≡ L.parts }
     requires some { 0 < blank.parts }
 {
     let mut machine = fitted(alloc, 8)?;
     let mut steps = Steps::<L>::open(blank);
-    machine.mem.write32(HOST_PC, word, &mut steps);
-    machine.mem.write64(HOST_DATA, OLD, &mut steps);
+    store_all(&mut machine.mem, &STAGE, &mut steps);
+    store_all(&mut machine.mem, &OWN, &mut steps);
+    store(&mut machine.mem, HOST_PC / 8, word as u64, &mut steps);
+    store(&mut machine.mem, HOST_DATA / 8, OLD, &mut steps);
     machine.hart.set_regs(regs);
     let exit = machine.hart.step(&mut machine.mem, &mut steps);
     let data = machine.mem.read64(HOST_DATA, &mut steps);
@@ -186,7 +253,7 @@ fn step_from<L: Ledger>(
 
 fn step_once(alloc: Global, regs: &Regs, word: u32) -> Result<After, NoMemory>
     requires formed { IsWellFormed regs.now }
-    requires window { IsWindowIn 0x80_0000 regs.now.window }
+    requires root { root_of regs.now.h ≡ 3 }
 {
     step_from::<Brand>(alloc, regs, word, Blank::new(1))
 }
@@ -360,27 +427,51 @@ fn lines(rt: HostRuntime) -> Result<(), Fail> {
     Ok(())
 }
 
-// the pc, the instruction at `PC`; cause, tval, htval and word of the trap to the monitor
-const LEFT: [(u64, u32, u8, u64, u64, u32); 10] = [
-    (PC, ECALL, 10, 0, 0, 0),
-    (PC, WFI, 22, 0x1050_0073, 0, 0x1050_0073),
-    (OUTSIDE, ECALL, 20, OUTSIDE, 0x2400_0000, 0),
-    (0x8000_1004, ECALL, 20, 0x8000_1004, 0x2000_0401, 0),
+// the pc, x14, the instruction at `PC`; cause, tval, htval and word of the trap to the monitor
+const LEFT: [(u64, u64, u32, u8, u64, u64, u32); 14] = [
+    (PC, OUTSIDE, ECALL, 10, 0, 0, 0),
+    (PC, OUTSIDE, WFI, 22, 0x1050_0073, 0, 0x1050_0073),
+    (OUTSIDE, OUTSIDE, ECALL, 20, OUTSIDE, 0x2400_0000, 0),
+    (0x8000_6004, OUTSIDE, ECALL, 20, 0x8000_6004, 0x2000_1801, 0),
     // lw, sw, lr.w, sc.w and amoswap.w of x13 at x14
-    (PC, 0x0007_2683, 21, OUTSIDE, 0x2400_0000, 0),
-    (PC, 0x00d7_2023, 23, OUTSIDE, 0x2400_0000, 0),
-    (PC, 0x1007_26af, 21, OUTSIDE, 0x2400_0000, 0),
-    (PC, 0x18d7_26af, 23, OUTSIDE, 0x2400_0000, 0),
-    (PC, 0x08d7_26af, 23, OUTSIDE, 0x2400_0000, 0),
-    // ld x13, 0(x15), of which half lies in the window
-    (PC, 0x0007_b683, 21, 0x8000_1000, 0x2000_0400, 0),
+    (PC, OUTSIDE, LW, 21, OUTSIDE, 0x2400_0000, 0),
+    (PC, OUTSIDE, SW, 23, OUTSIDE, 0x2400_0000, 0),
+    (PC, OUTSIDE, 0x1007_26af, 21, OUTSIDE, 0x2400_0000, 0),
+    (PC, OUTSIDE, 0x18d7_26af, 23, OUTSIDE, 0x2400_0000, 0),
+    (PC, OUTSIDE, 0x08d7_26af, 23, OUTSIDE, 0x2400_0000, 0),
+    // a leaf without W
+    (PC, ROM, SW, 23, ROM, 0x2000_0800, 0),
+    (PC, ROM, 0x18d7_26af, 23, ROM, 0x2000_0800, 0),
+    (PC, ROM, 0x08d7_26af, 23, ROM, 0x2000_0800, 0),
+    // bits above 40
+    (
+        PC,
+        0x200_8000_0100,
+        LW,
+        21,
+        0x200_8000_0100,
+        0x80_2000_0040,
+        0,
+    ),
+    (
+        PC,
+        0x8000_0000_8000_0100,
+        SW,
+        23,
+        0x8000_0000_8000_0100,
+        0x2000_0000_2000_0040,
+        0,
+    ),
 ];
 
 #[test]
 fn left_to_the_monitor(rt: HostRuntime) -> Result<(), Fail> {
-    for (pc, instruction, cause, tval, htval, word) in LEFT {
+    for (pc, at, instruction, cause, tval, htval, word) in LEFT {
         assert!(rt; pc % 4 == 0, "{pc:#x}");
+        let mut x = before().x;
+        x[14] = at;
         let regs = Regs {
+            x,
             pc,
             held: HELD_WORD,
             ..before()
@@ -397,6 +488,163 @@ fn left_to_the_monitor(rt: HostRuntime) -> Result<(), Fail> {
         assert_eq!(rt; after.exit, Exit::Trap(trap), "{instruction:#x}");
         assert_eq!(rt; after.data, OLD, "{instruction:#x}");
         assert!(rt; *after.machine.hart.regs() == regs, "{instruction:#x}");
+    }
+    Ok(())
+}
+
+// the guest's own tables: the root in page 0x80003, the middle one in page 0x80004, the last one in
+// page 0x80005, and a table in the ROM. Their pointers have G, which means nothing in a pointer, and
+// so are none of the second stage
+const OWN: [(u64, u64); 10] = [
+    (512 * 0x103 + 2, (0x80004 << 10) | 0x21),
+    // tables where no leaf is
+    (512 * 0x103 + 3, (0x80006 << 10) | 0x21),
+    (512 * 0x103 + 4, (0x90000 << 10) | 0x21),
+    (512 * 0x103 + 5, (0x80002 << 10) | 0x21),
+    (512 * 0x104, (0x80005 << 10) | 0x21),
+    // pages: code, data without D, ROM, and one that leads nowhere
+    (512 * 0x105, (0x80000 << 10) | 0xcb),
+    (512 * 0x105 + 1, (0x80000 << 10) | 0x47),
+    (512 * 0x105 + 2, (0x80002 << 10) | 0xc7),
+    (512 * 0x105 + 3, (0x80006 << 10) | 0xcf),
+    // 2 MiB of data
+    (512 * 0x102, (0x80000 << 10) | 0xc7),
+];
+
+// satp of the tables above, and one whose root table leads nowhere
+const SATP: u64 = (8 << 60) | 0x80003;
+
+const LOST: u64 = (8 << 60) | 0x80006;
+
+// satp, the pc, x14, the instruction at `PC`; cause, tval, htval and htinst of the trap to the
+// monitor, whose cause is 0 where there is none; scause then
+const WALKS: [(u64, u64, u64, u32, u8, u64, u64, u64, u64); 14] = [
+    // a walk of three entries, each found by a walk of its own: 15 reads
+    (SATP, PC, 0x8000_1100, LW, 0, 0, 0, 0, 0),
+    (SATP, PC, 0x8000_1100, SW, 0, 0, 0, 0, 15),
+    // the guest may write there, but its leaf is ROM's
+    (SATP, PC, 0x8000_2100, LW, 0, 0, 0, 0, 0),
+    (
+        SATP,
+        PC,
+        0x8000_2100,
+        SW,
+        23,
+        0x8000_2100,
+        0x2000_0840,
+        0,
+        0,
+    ),
+    // a page that leads nowhere
+    (
+        SATP,
+        PC,
+        0x8000_3100,
+        LW,
+        21,
+        0x8000_3100,
+        0x2000_1840,
+        0,
+        0,
+    ),
+    (
+        SATP,
+        PC,
+        0x8000_3100,
+        SW,
+        23,
+        0x8000_3100,
+        0x2000_1840,
+        0,
+        0,
+    ),
+    (SATP, 0x8000_3100, 0, LW, 20, 0x8000_3100, 0x2000_1840, 0, 0),
+    // entries that lead nowhere
+    (
+        SATP,
+        PC,
+        0xc020_0000,
+        LW,
+        21,
+        0xc020_0000,
+        0x2000_1802,
+        ENTRY,
+        0,
+    ),
+    (
+        SATP,
+        PC,
+        0xc020_0000,
+        SW,
+        23,
+        0xc020_0000,
+        0x2000_1802,
+        ENTRY,
+        0,
+    ),
+    (
+        SATP,
+        0xc020_0000,
+        0,
+        LW,
+        20,
+        0xc020_0000,
+        0x2000_1802,
+        ENTRY,
+        0,
+    ),
+    (
+        SATP,
+        PC,
+        0x1_0000_0000,
+        SW,
+        23,
+        0x1_0000_0000,
+        0x2400_0000,
+        ENTRY,
+        0,
+    ),
+    (LOST, PC, 0, LW, 20, PC, 0x2000_1804, ENTRY, 0),
+    // a table in ROM, with a leaf of 2 MiB
+    (SATP, PC, 0x1_4000_0100, SW, 0, 0, 0, 0, 0),
+    // no entry
+    (SATP, PC, 0x8000_4000, LW, 0, 0, 0, 0, 13),
+];
+
+#[test]
+fn walks_of_two_stages(rt: HostRuntime) -> Result<(), Fail> {
+    for (satp, pc, at, instruction, cause, tval, htval, htinst, scause) in WALKS {
+        assert!(rt; pc % 4 == 0, "{pc:#x}");
+        let mut csrs = before().csrs;
+        csrs.write(0x180, false, satp);
+        let csrs = SCsrs {
+            ssip: false,
+            ..csrs
+        };
+        let mut x = before().x;
+        x[14] = at;
+        let regs = Regs {
+            x,
+            pc,
+            csrs,
+            ..before()
+        };
+        let after = step_once(rt.alloc(), &regs, instruction)?;
+        let trap = HTrap {
+            cause,
+            tval,
+            htval,
+            htinst,
+            word: 0,
+            user: false,
+        };
+        let exit = if cause == 0 {
+            Exit::Done
+        } else {
+            Exit::Trap(trap)
+        };
+        assert_eq!(rt; after.exit, exit, "{at:#x}");
+        assert_eq!(rt; after.machine.hart.regs().csrs.scause, scause, "{at:#x}");
     }
     Ok(())
 }

@@ -5,6 +5,7 @@ use Rattle.xv_csr.specs.Kept.{IsKept}
 use Rattle.xv_hcsr.specs.declared.HCsrs.{HCsrs}
 use Rattle.xv_hcsr.specs.Guest.{guest_hcsrs, IsForGuest}
 use Rattle.xv_hcsr.specs.Lines.{with_lines}
+use Rattle.xv_hcsr.specs.Stage.{root_of}
 use Rattle.xv_hcsr.specs.Time.{guest_time, delta_of}
 use Rattle.xv_hcsr.proofs.LineLemmas.{with_lines-software}
 use Rattle.xv_hart.specs.Step.{IsWellFormed}
@@ -47,3 +48,11 @@ begun_formed g clock pc csrs =
       guest = guest_is (delta_of g.birth) (hcsrs_of_guest g t).hvip;
       software = sym (with_lines-software g.view.csrs.ssip lines.timer lines.external 0);
     }
+
+root_is : (delta hvip : ℕ) → root_of (record (guest_hcsrs 0 0 delta) { hvip = hvip }) ≡ 0
+unfolding guest_hcsrs
+root_is delta hvip = omega arith
+
+pub begun_root : (g : Guest) (clock : ℕ) → root_of (regs_of_guest g clock).h ≡ 0
+begun_root g clock =
+    root_is (delta_of g.birth) (hcsrs_of_guest g (time_of g clock)).hvip

@@ -1,8 +1,8 @@
--- A guest's memory through its window is the memory of its lone machine, so that both step alike.
+-- A guest's memory behind its tables is the memory of its lone machine, so that both step alike.
 use Rattle.std.proofs.Common.{◌≡◌, inl, inr, ℕ, ◌+◌, ◌-◌, ◌≤◌, Bool, true, false, ◌&&◌, eqb}
-use Rattle.std.proofs.Common.{leb, cond, List, [], ◌∷◌, length, Some, None, option_map}
+use Rattle.std.proofs.Common.{leb, ltb, ◌*◌, ◌/◌, ◌%◌, ◌<◌, cond, List, [], ◌∷◌, length, Some, None, option_map}
 use Rattle.std.proofs.Common.{is_some, refl, sym, ap, ◌∙◌, arith}
-use Rattle.std.proofs.lemmas.Bool.{and_parts, leb-true}
+use Rattle.std.proofs.lemmas.Bool.{and_parts, leb-true, le-leb, lt-leb, lt-ltb, le-ltb, cases_lt}
 use Rattle.std.proofs.lemmas.Bool.Decides.{nat_tests}
 use Rattle.xv_mem.specs.Bytes.{range, put, put_word, word_at}
 use Rattle.xv_mem.proofs.Puts.{range-put_inside, range-put_outside, range-range, length-put}
@@ -10,7 +10,8 @@ use Rattle.xv_mem.proofs.Words.{word_at-range, range-put_word_inside, range-put_
 use Rattle.xv_mem.proofs.Words.{length-put_word}
 use Rattle.xv_step.specs.Bus.{Spot}
 use Rattle.xv_step.proofs.BusLemmas.{AreJoined, Nothing}
-use Rattle.xv_hart.specs.Window.{window_bus, host_of}
+use Rattle.xv_hart.specs.Stage as stage
+use Rattle.xv_hart.specs.Stage.{stage_bus, HasStage, SameUnled}
 use Rattle.xv_lone.specs.Machine.{Machine}
 use Rattle.xv_region.specs.declared.cell.Cell.{Cell}
 use Rattle.xv_region.specs.declared.cell.Cell.TheVariants as cells
@@ -20,8 +21,11 @@ use Rattle.xv_lone.specs.Step.{lone_bus}
 use Rattle.xv_lone.specs.Journal.{after_load, stored_at}
 use Rattle.xv_top.specs.declared.guest.Guest.{Guest}
 use Rattle.xv_top.specs.Contents.{bytes_of_spot, peeked}
-use Rattle.xv_top.specs.Guest.{plan_of, lone_of, host_end, window_of, place_at, SameElsewhere}
-use Rattle.xv_top.specs.Layout.{host_base}
+use Rattle.xv_top.specs.Guest.{plan_of, lone_of, host_end, host_of, place_at, SameElsewhere}
+use Rattle.xv_top.specs.Guest.{own_frame, IsBehind, IsPlaced}
+use Rattle.xv_top.specs.Layout.{host_base, root_frames}
+use Rattle.xv_pte.specs.GStage.{leaf_at, walked}
+use Rattle.xv_step.proofs.WidthLemmas.{IsAccess, IsWidth, One, Two, Four, Eight}
 
 -- whether n bytes at a guest physical address lie in the guest's memory
 abbrev within : Guest → ℕ → ℕ → Bool
@@ -113,15 +117,96 @@ spot_found true at spot e = (refl, some_place e)
     some_place e = cc
 spot_found false at spot e = cc
 
-pub joined : (g : Guest) (first : List ℕ)
-    → AreJoined (lone_bus (plan_of g)) (window_bus (window_of g)) (seen_memory g) place_at
+-- ---- through the tables
+
+-- a page lies in the guest's memory
+abbrev has_page : Guest → ℕ → Bool
+has_page g page =
+    leb g.plan.ram.base (4096 * page) && ltb (4096 * page) (g.plan.ram.base + g.plan.ram.size)
+
+-- an aligned access lies in the guest's memory where its page does
+page_within : (g : Guest) (width gpa : ℕ) → g.plan.ram.base % 4096 ≡ 0
+    → g.plan.ram.size % 4096 ≡ 0 → IsAccess width gpa
+    → has_page g (gpa / 4096) ≡ within g gpa width
+page_within g width gpa base whole access = go width access.bytes access.aligned
+  where
+    start : leb g.plan.ram.base (4096 * (gpa / 4096)) ≡ leb g.plan.ram.base gpa
+    start = elim (cases_lt gpa g.plan.ram.base) [
+      | inl below ↦ lt-leb g.plan.ram.base (4096 * (gpa / 4096)) (omega arith)
+          ∙ sym (lt-leb g.plan.ram.base gpa (omega arith))
+      | inr from ↦ le-leb g.plan.ram.base (4096 * (gpa / 4096)) (omega arith)
+          ∙ sym (le-leb g.plan.ram.base gpa (omega arith))
+    ]
+
+    end : ℕ
+    end = g.plan.ram.base + g.plan.ram.size
+
+    both : (w : ℕ) → ltb (4096 * (gpa / 4096)) (g.plan.ram.base + g.plan.ram.size)
+        ≡ leb (gpa + w) (g.plan.ram.base + g.plan.ram.size)
+        → has_page g (gpa / 4096) ≡ within g gpa w
+    both w last =
+        ap (λ (b : Bool). b && ltb (4096 * (gpa / 4096)) (g.plan.ram.base + g.plan.ram.size)) start
+        ∙ ap (λ (b : Bool). leb g.plan.ram.base gpa && b) last
+
+    last_is : (w : ℕ) → ((gpa < g.plan.ram.base + g.plan.ram.size)
+        → gpa + w ≤ g.plan.ram.base + g.plan.ram.size) → 0 < w
+        → ltb (4096 * (gpa / 4096)) (g.plan.ram.base + g.plan.ram.size)
+        ≡ leb (gpa + w) (g.plan.ram.base + g.plan.ram.size)
+    last_is w fits some = elim (cases_lt gpa (g.plan.ram.base + g.plan.ram.size)) [
+      | inl inside ↦
+          (let full = fits inside in
+          lt-ltb (4096 * (gpa / 4096)) (g.plan.ram.base + g.plan.ram.size) (omega arith)
+          ∙ sym (le-leb (gpa + w) (g.plan.ram.base + g.plan.ram.size) full))
+      | inr past ↦ le-ltb (4096 * (gpa / 4096)) (g.plan.ram.base + g.plan.ram.size) (omega arith)
+          ∙ sym (lt-leb (gpa + w) (g.plan.ram.base + g.plan.ram.size) (omega arith))
+    ]
+
+    go : (w : ℕ) → IsWidth w → gpa % w ≡ 0 → has_page g (gpa / 4096) ≡ within g gpa w
+    go _ One aligned = both 1 (last_is 1 (λ less. omega arith) (omega arith))
+    go _ Two aligned = both 2 (last_is 2 (λ less. omega arith) (omega arith))
+    go _ Four aligned = both 4 (last_is 4 (λ less. omega arith) (omega arith))
+    go _ Eight aligned = both 8 (last_is 8 (λ less. omega arith) (omega arith))
+
+-- where the tables lead an access
+led_spot : (g : Guest) (width gpa : ℕ) (first : List ℕ) → IsPlaced g first → IsAccess width gpa
+    → option_map stage.spot_of (walked first 0 gpa)
+    ≡ option_map host_spot (cond (within g gpa width)
+    (Some (host_base + (gpa - g.plan.ram.base))) None)
+led_spot g width gpa first placed access =
+    ap (λ o. option_map stage.spot_of (leaf_at gpa o)) (placed.behind.led (gpa / 4096))
+    ∙ go (has_page g (gpa / 4096)) refl
+    ∙ ap (λ (b : Bool). option_map host_spot (cond b (Some (host_base + (gpa - g.plan.ram.base))) None))
+    (page_within g width gpa placed.laid.base placed.laid.whole access)
+  where
+    here : has_page g (gpa / 4096) ≡ true
+        → 4096 * (root_frames + (gpa / 4096 - g.plan.ram.base / 4096)) + gpa % 4096
+        ≡ host_base + (gpa - g.plan.ram.base)
+    here is =
+        let low = leb-true g.plan.ram.base (4096 * (gpa / 4096)) (and_parts
+        (leb g.plan.ram.base (4096 * (gpa / 4096)))
+        (ltb (4096 * (gpa / 4096)) (g.plan.ram.base + g.plan.ram.size)) is).0 in
+        omega (arith, placed.laid.base)
+
+    go : (b : Bool) → has_page g (gpa / 4096) ≡ b
+        → option_map stage.spot_of (leaf_at gpa (cond b (Some (record {
+          frame = root_frames + (gpa / 4096 - g.plan.ram.base / 4096);
+          writable = true;
+        })) None))
+        ≡ option_map host_spot (cond b (Some (host_base + (gpa - g.plan.ram.base))) None)
+    go true is = ap (λ (n : ℕ). Some (host_spot n)) (here is)
+    go false is = refl
+
+pub joined : (g : Guest) (first : List ℕ) → IsPlaced g first
+    → AreJoined (lone_bus (plan_of g)) (stage_bus first 0) (seen_memory g) place_at
     (IsGoodFor g first) (StandsIn g) Nothing
 unfolding cell
-joined g first = record {
-  find = λ width gpa access. inl (found_same (within g gpa width) (gpa - g.plan.ram.base));
+joined g first placed = record {
+  find = λ width gpa access.
+      inl (found_same (within g gpa width) (gpa - g.plan.ram.base)
+      ∙ sym (ap (option_map seen_spot) (led_spot g width gpa first placed access)));
   stands = λ width gpa spot access found.
-      let there = spot_found (within g gpa width) (host_base + (gpa - g.plan.ram.base)) spot found
-      in
+      let there = spot_found (within g gpa width) (host_base + (gpa - g.plan.ram.base)) spot
+      (sym (led_spot g width gpa first placed access) ∙ found) in
       let fits = within_fits g gpa width there.0 in
       record { first = omega (arith, there.1); last = omega (arith, there.1, fits) };
   get = λ bytes width at good stands.
@@ -153,9 +238,9 @@ found_there : {A : Type 0} (b : Bool) (x y : A) → cond b (Some x) None ≡ Som
 found_there true x y e = (refl, cc)
 found_there false x y e = cc
 
--- bytes put where the window leads are a load of the lone machine
+-- bytes put where the guest has them are a load of the lone machine
 pub same_load : (g : Guest) (mem bytes : List ℕ) (gpa at : ℕ)
-    → host_base + g.plan.ram.size ≤ length mem → host_of (window_of g) (length bytes) gpa ≡ Some at
+    → host_base + g.plan.ram.size ≤ length mem → host_of g (length bytes) gpa ≡ Some at
     → lone_of g (put mem at bytes) ≡ after_load (plan_of g) gpa bytes (lone_of g mem)
 unfolding cell
 same_load g mem bytes gpa at fits found =
@@ -171,7 +256,7 @@ same_load g mem bytes gpa at fits found =
 
 -- and no other host byte changes
 pub load_elsewhere : (g : Guest) (mem bytes : List ℕ) (gpa at : ℕ) → host_end g ≤ length mem
-    → host_of (window_of g) (length bytes) gpa ≡ Some at
+    → host_of g (length bytes) gpa ≡ Some at
     → SameElsewhere (host_end g) mem (put mem at bytes)
 load_elsewhere g mem bytes gpa at fits found =
     let offset : ℕ = gpa - g.plan.ram.base in
@@ -187,16 +272,16 @@ load_elsewhere g mem bytes gpa at fits found =
           (omega (arith, fits)) (inr last);
     }
 
--- where the window leads, the bytes are memory
-pub some_load : (g : Guest) (gpa n at : ℕ) → host_of (window_of g) n gpa ≡ Some at
+-- where they lie in it, the bytes are memory
+pub some_load : (g : Guest) (gpa n at : ℕ) → host_of g n gpa ≡ Some at
     → is_some (spot_at (plan_of g) n gpa) ≡ true
 unfolding cell
 some_load g gpa n at found =
     ap (λ b. is_some (spot_of (offset_cell b (gpa - g.plan.ram.base))))
     (found_there (within g gpa n) (host_base + (gpa - g.plan.ram.base)) at found).0
 
--- where the window leads nowhere, they are not
-pub no_load : (g : Guest) (gpa n : ℕ) → host_of (window_of g) n gpa ≡ None
+-- where that is nowhere, they are not
+pub no_load : (g : Guest) (gpa n : ℕ) → host_of g n gpa ≡ None
     → spot_at (plan_of g) n gpa ≡ None
 unfolding cell
 no_load g gpa n none =
@@ -207,9 +292,9 @@ no_load g gpa n none =
     nowhere true x offset e = cc
     nowhere false x offset e = refl
 
--- where the window leads, the bytes there are those of the spot
+-- where they lie in it, the bytes there are those of the spot
 pub same_peek : (g : Guest) (mem : List ℕ) (gpa n at : ℕ) → host_end g ≤ length mem
-    → host_of (window_of g) n gpa ≡ Some at
+    → host_of g n gpa ≡ Some at
     → peeked (plan_of g) (lone_of g mem).memory gpa n ≡ Some (range mem at n)
 unfolding cell
 same_peek g mem gpa n at fits found =
@@ -221,7 +306,7 @@ same_peek g mem gpa n at fits found =
     ∙ ap (λ a. range mem a n) there.1)
 
 pub peek_within : (g : Guest) (gpa n at size : ℕ) → host_end g ≤ size
-    → host_of (window_of g) n gpa ≡ Some at → at + n ≤ size
+    → host_of g n gpa ≡ Some at → at + n ≤ size
 peek_within g gpa n at size fits found =
     let there = found_there (within g gpa n) (host_base + (gpa - g.plan.ram.base)) at found in
     omega (arith, there.1, within_fits g gpa n there.0, fits)

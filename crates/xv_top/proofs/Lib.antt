@@ -1,4 +1,7 @@
 mod GuestLemmas
+mod BehindLemmas
+mod TableLemmas
+mod StandLemmas
 mod SimulationLemmas
 mod MonitorLemmas
 mod TurnLemmas

@@ -34,9 +34,11 @@ use Rattle.xv_top.specs.Births.{admitted, created, create_answer, flat_answer}
 use Rattle.xv_top.specs.Commands.{answer, is_fetching, is_loadable, kick_guest, regs_guest}
 use Rattle.xv_top.specs.Commands.{run_answer, unbuilt}
 use Rattle.xv_top.specs.Contents.{put_at, load_guest, poke_guest, mem_guest, digest_guest}
-use Rattle.xv_top.specs.Guest.{lone_of, new_guest, plan_of, seen, turned, IsPlaced, SameElsewhere}
+use Rattle.xv_top.specs.Guest.{lone_of, new_guest, plan_of, seen, turned, host_end, IsLaid}
+use Rattle.xv_top.specs.Guest.{IsZeroElsewhere, SameElsewhere}
 use Rattle.xv_top.specs.Layout.{host_base}
 use Rattle.xv_top.specs.Manager.{live_guest, world_of, guests_of, memory_end, Gives, Keeps}
+use Rattle.xv_top.specs.Manager.{KeepsFor, KeepsButTables, is_kick}
 use Rattle.xv_top.specs.Texts.{frames_text}
 use Rattle.xv_top.specs.World.{LiveGuest, World, RunSoFar, with_change, changed_guest, guest_turn}
 use Rattle.xv_top.specs.World.{guest_named, one_turn, pick}
@@ -99,6 +101,39 @@ keeps_all a m before after same = record {
       (same_elsewhere (memory_end m.guest) before);
   all = λ none. same;
 }
+
+-- a change is entered into a journal
+pub changes_all : (w : World) (name : List ℕ) (change : Change) (text : List ℕ)
+    → (changes w name change text).entries ≡ [] → ⊥
+changes_all w name change text none = cc
+
+-- the answer to any line but a kick
+pub keeps_other : (c : Command) (a : Answer) (m : Manager) (before after : List ℕ)
+    → is_kick c ≡ false → Keeps a m before after → KeepsFor c a m before after
+keeps_other c a m before after other keeps =
+    record { others = λ _. keeps; kick = λ yes. absurd (clash (sym other ∙ yes)) }
+  where
+    clash : false ≡ true → ⊥
+    clash e = cc
+
+-- and to a kick
+pub keeps_kick : (c : Command) (a b : Answer) (m : Manager) (before after : List ℕ)
+    → is_kick c ≡ true → a ≡ b → KeepsButTables b m before after → KeepsFor c a m before after
+keeps_kick c a b m before after is same keeps = record {
+  others = λ no. absurd (clash (sym no ∙ is));
+  kick = λ _.
+      record {
+        outside = keeps.outside;
+        all = λ none. keeps.all (sym (ap (λ x. x.entries) same) ∙ none);
+      };
+}
+  where
+    clash : false ≡ true → ⊥
+    clash e = cc
+
+pub no_kick : (c : Command) → ((name : List ℕ) → c ≡ command.Kick name → ⊥) → is_kick c ≡ false
+no_kick (command.Kick name) other = absurd (other name refl)
+no_kick _ other = refl
 
 -- a change of the one guest
 pub change_one : (m : Manager) (g h : Guest) (bytes now name : List ℕ) (change : Change)
@@ -180,11 +215,28 @@ born m bytes name plan zeros fits =
     ap born_with (ap (λ b. range b host_base plan.ram.size) zeros
     ∙ range-replicate (length bytes) host_base plan.ram.size fits)
 
-pub new_placed : (name : List ℕ) (plan : BuiltPlan) (clock size : ℕ) → plan.ram.base % 4096 ≡ 0
-    → IsInstructionAddress plan.vcpu.start → host_base + plan.ram.size ≤ size → size < 2 ^ 45
-    → IsPlaced (new_guest name plan clock) size
-new_placed name plan clock size base start fits small =
-    record { base = base; pages = fits; small = small; pc = start; csrs = reset_csrs_kept }
+pub new_laid : (name : List ℕ) (plan : BuiltPlan) (clock size : ℕ) → plan.ram.base % 4096 ≡ 0
+    → plan.ram.size % 4096 ≡ 0 → IsInstructionAddress plan.vcpu.start
+    → host_base + plan.ram.size ≤ size → size < 2 ^ 45 → IsLaid (new_guest name plan clock) size
+new_laid name plan clock size base whole start fits small = record {
+  base = base;
+  whole = whole;
+  pages = fits;
+  small = small;
+  pc = start;
+  csrs = reset_csrs_kept;
+}
+
+-- and so is the rest of it
+pub new_zero : (g : Guest) (bytes : List ℕ) → bytes ≡ replicate (length bytes) 0
+    → host_end g ≤ length bytes → IsZeroElsewhere (host_end g) bytes
+new_zero g bytes zeros fits = record {
+  below = ap (λ b. range b 0 host_base) zeros
+      ∙ range-replicate (length bytes) 0 host_base (omega (arith, fits));
+  above = ap (λ b. range b (host_end g) (length bytes - host_end g)) zeros
+      ∙ range-replicate (length bytes) (host_end g) (length bytes - host_end g)
+      (omega (arith, fits));
+}
 
 -- bytes that are memory are put
 pub put_at_some : (w : World) (name : List ℕ) (gpa : ℕ) (bytes text : List ℕ)

@@ -45,7 +45,7 @@ paged plan accepted =
     (sound_region plan accepted) in
     (grind (arith, nat_tests, pages.0), grind (arith, nat_tests, pages.1))
 
-pages_needed : (plan : BuiltPlan) → plan.ram.size / 4096 ≤ need (seen plan).regions
+pub pages_needed : (plan : BuiltPlan) → plan.ram.size / 4096 ≤ need (seen plan).regions
 unfolding need
 pages_needed plan = omega arith
 

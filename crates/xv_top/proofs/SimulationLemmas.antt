@@ -9,6 +9,7 @@ use Rattle.xv_hcsr.specs.declared.HCsrs.{HCsrs}
 use Rattle.xv_hcsr.specs.Delegation.{is_delegated}
 use Rattle.xv_hcsr.specs.Guest.{IsForGuest}
 use Rattle.xv_hcsr.specs.Lines.{external_line}
+use Rattle.xv_hcsr.specs.Stage.{root_of}
 use Rattle.xv_hcsr.specs.Time.{guest_time}
 use Rattle.xv_hcsr.proofs.LineLemmas.{with_lines-software, with_lines-timer, with_lines-external}
 use Rattle.xv_step.specs.State.{Held as Reservation, State, trapped}
@@ -26,7 +27,7 @@ use Rattle.xv_hart.specs.declared.exit.HTrap.{HTrap}
 use Rattle.xv_hart.specs.declared.regs.Held.{Held}
 use Rattle.xv_hart.specs.declared.regs.Regs.{Regs}
 use Rattle.xv_hart.specs.Memory.{bus_of}
-use Rattle.xv_hart.specs.Window.{window_bus}
+use Rattle.xv_hart.specs.Stage.{stage_bus}
 use Rattle.xv_hart.specs.Step.{HStep, came, exit_of, state_of, inputs_of, held_of, outcome_of}
 use Rattle.xv_hart.specs.Step.{hart_step, trap_of, lines_of, ended, raised, IsWellFormed}
 use Rattle.xv_hart.proofs.StepLemmas.{ssip_guest}
@@ -36,9 +37,9 @@ use Rattle.xv_lone.specs.Memory.{Memory, Place}
 use Rattle.xv_lone.specs.Step as lone
 use Rattle.xv_lone.specs.Step.{After, OnHart, lone_bus, inputs_at, lines_at, hart_of, goes_on}
 use Rattle.xv_top.specs.declared.guest.Guest.{Guest}
-use Rattle.xv_top.specs.Guest.{plan_of, lone_of, host_end, window_of, place_at, view_of, on_hart_of}
+use Rattle.xv_top.specs.Guest.{plan_of, lone_of, host_end, place_at, view_of, on_hart_of}
 use Rattle.xv_top.specs.Guest.{after_of, lines_of_guest, with_lines_of, IsOnHart, ReservedInside}
-use Rattle.xv_top.specs.Guest.{SameElsewhere}
+use Rattle.xv_top.specs.Guest.{SameElsewhere, IsPlaced}
 use Rattle.xv_top.specs.Monitor.{monitored}
 use Rattle.xv_top.proofs.GuestLemmas.{seen_memory, IsGoodFor, StandsIn, joined}
 use Rattle.xv_top.proofs.MonitorLemmas.{monitored_same}
@@ -64,7 +65,7 @@ with_lines g t r next is on formed =
     let lines = lines_of_guest g t in
     let hvip = (with_lines_of lines r).h.hvip in
     subst (IsToStep g t) (sym is) (record {
-      on = record { window = on.window; time = on.time; reserved = on.reserved };
+      on = record { root = on.root; time = on.time; reserved = on.reserved };
       lines = lines_are lines r;
       formed = record {
         pc = formed.pc;
@@ -74,12 +75,12 @@ with_lines g t r next is on formed =
       };
     })
 
--- the monitor's answer leaves window, time and reservation
+-- the monitor's answer leaves root, time and reservation
 pub on_again : (g : Guest) (t : ℕ) (stepped taken next : Regs) → IsOnHart g t stepped
-    → taken ≡ stepped → next.window ≡ taken.window → next.time ≡ taken.time → next.h ≡ taken.h
+    → taken ≡ stepped → next.time ≡ taken.time → next.h ≡ taken.h
     → next.held ≡ taken.held → IsOnHart g t next
-on_again g t stepped taken next on same window time h held = record {
-  window = window ∙ (ap (λ r. r.window) same ∙ on.window);
+on_again g t stepped taken next on same time h held = record {
+  root = ap root_of h ∙ (ap (λ r. root_of r.h) same ∙ on.root);
   time = ap (λ n. guest_time n next.h) time ∙ (ap (guest_time taken.time) h
       ∙ (ap (λ r. guest_time r.time r.h) same ∙ on.time));
   reserved = subst (ReservedInside g) (sym (held ∙ ap (λ r. r.held) same)) on.reserved;
@@ -103,39 +104,39 @@ entered : (r : Regs) (bytes : List ℕ) (cause tval : ℕ) → IsForGuest r.h �
 entered r bytes cause tval guest is =
     cond-true (is_delegated r.h cause) _ _ (delegated r.h cause guest is)
 
-module _ (g : Guest) (t : ℕ) (first : List ℕ) where
+module _ (g : Guest) (t : ℕ) (first : List ℕ) (placed : IsPlaced g first) where
   -- a state of the hart over host bytes, as one of the lone machine
   abbrev seen : State (List ℕ) ℕ → State Memory Place
-  seen s = buses.seen (lone_bus (plan_of g)) (window_bus (window_of g)) (seen_memory g) place_at
-      (IsGoodFor g first) (StandsIn g) Nothing (joined g first) s
+  seen s = buses.seen (lone_bus (plan_of g)) (stage_bus first 0) (seen_memory g) place_at
+      (IsGoodFor g first) (StandsIn g) Nothing (joined g first placed) s
 
   abbrev IsGood : State (List ℕ) ℕ → Type 0
-  IsGood s = buses.IsGood (lone_bus (plan_of g)) (window_bus (window_of g)) (seen_memory g) place_at
-      (IsGoodFor g first) (StandsIn g) Nothing (joined g first) s
+  IsGood s = buses.IsGood (lone_bus (plan_of g)) (stage_bus first 0) (seen_memory g) place_at
+      (IsGoodFor g first) (StandsIn g) Nothing (joined g first placed) s
 
   abbrev HeldStands : Option (Reservation ℕ) → Type 0
   HeldStands held =
-      buses.HeldStands (lone_bus (plan_of g)) (window_bus (window_of g)) (seen_memory g) place_at
-      (IsGoodFor g first) (StandsIn g) Nothing (joined g first) held
+      buses.HeldStands (lone_bus (plan_of g)) (stage_bus first 0) (seen_memory g) place_at
+      (IsGoodFor g first) (StandsIn g) Nothing (joined g first placed) held
 
   abbrev IsOne : Outcome Memory Place → Outcome (List ℕ) ℕ → Type 0
-  IsOne a b = buses.IsOne (lone_bus (plan_of g)) (window_bus (window_of g)) (seen_memory g) place_at
-      (IsGoodFor g first) (StandsIn g) Nothing (joined g first) a b
+  IsOne a b = buses.IsOne (lone_bus (plan_of g)) (stage_bus first 0) (seen_memory g) place_at
+      (IsGoodFor g first) (StandsIn g) Nothing (joined g first placed) a b
 
   abbrev seen_outcome : Outcome (List ℕ) ℕ → Outcome Memory Place
   seen_outcome o =
-      buses.seen_outcome (lone_bus (plan_of g)) (window_bus (window_of g)) (seen_memory g) place_at
-      (IsGoodFor g first) (StandsIn g) Nothing (joined g first) o
+      buses.seen_outcome (lone_bus (plan_of g)) (stage_bus first 0) (seen_memory g) place_at
+      (IsGoodFor g first) (StandsIn g) Nothing (joined g first placed) o
 
   abbrev LeavesGood : Outcome (List ℕ) ℕ → Type 0
   LeavesGood o =
-      buses.LeavesGood (lone_bus (plan_of g)) (window_bus (window_of g)) (seen_memory g) place_at
-      (IsGoodFor g first) (StandsIn g) Nothing (joined g first) o
+      buses.LeavesGood (lone_bus (plan_of g)) (stage_bus first 0) (seen_memory g) place_at
+      (IsGoodFor g first) (StandsIn g) Nothing (joined g first placed) o
 
   abbrev IsLacking : Ask → Type 0
   IsLacking ask =
-      buses.IsLacking (lone_bus (plan_of g)) (window_bus (window_of g)) (seen_memory g) place_at
-      (IsGoodFor g first) (StandsIn g) Nothing (joined g first) ask
+      buses.IsLacking (lone_bus (plan_of g)) (stage_bus first 0) (seen_memory g) place_at
+      (IsGoodFor g first) (StandsIn g) Nothing (joined g first placed) ask
 
   -- what is reserved stands
   held_stands : (held : Option Held) → ReservedInside g held → HeldStands (held_of held)
@@ -146,7 +147,7 @@ module _ (g : Guest) (t : ℕ) (first : List ℕ) where
   reserved_inside None stands = tt {0}
   reserved_inside (Some held) stands = (stands.first, stands.last)
 
-  -- the window lacks nothing
+  -- the tables lack nothing
   none_lacking : (ask : Ask) → IsLacking ask → ⊥
   none_lacking (TableEntry access va gpa) lacks = lacks
   none_lacking (Target access va gpa) lacks = lacks.1
@@ -165,33 +166,33 @@ module _ (g : Guest) (t : ℕ) (first : List ℕ) where
 
   -- ---- one step of the hart
 
-  module _ (r : Regs) (bytes : List ℕ) (on : IsOnHart g t r)
+  module _ (r : Regs) (on : IsOnHart g t r)
       (lines : lines_of r.h ≡ lines_of_guest g t) (formed : IsWellFormed r)
-      (memory : IsGoodFor g first bytes) where
+      (memory : IsGoodFor g first first) where
     abbrev s : State (List ℕ) ℕ
-    s = state_of r bytes
+    s = state_of r first
 
     abbrev before : OnHart
-    before = on_hart_of g r bytes Started
+    before = on_hart_of g r first Started
 
     good : IsGood s
     good = record { memory = memory; held = held_stands r.held on.reserved }
 
     host_outcome : Outcome (List ℕ) ℕ
-    host_outcome = step (window_bus (window_of g)) (inputs_of r) s
+    host_outcome = step (stage_bus first 0) (inputs_of r) s
 
-    outcome_is : outcome_of r bytes ≡ host_outcome
+    outcome_is : outcome_of r first ≡ host_outcome
     unfolding host_outcome
-    outcome_is = ap (λ w. step (window_bus w) (inputs_of r) s) on.window
+    outcome_is = ap (λ n. step (stage_bus first n) (inputs_of r) s) on.root
 
-    one : SameOutcome (step (lone_bus (plan_of g)) (inputs_of r) (seen s)) (outcome_of r bytes)
+    one : SameOutcome (step (lone_bus (plan_of g)) (inputs_of r) (seen s)) (outcome_of r first)
     unfolding host_outcome
     one =
         subst (SameOutcome (step (lone_bus (plan_of g)) (inputs_of r) (seen s))) (sym outcome_is)
         (same_outcome (step (lone_bus (plan_of g)) (inputs_of r) (seen s)) host_outcome
-        (buses.step_is_one (lone_bus (plan_of g)) (window_bus (window_of g))
+        (buses.step_is_one (lone_bus (plan_of g)) (stage_bus first 0)
         (seen_memory g) place_at
-        (IsGoodFor g first) (StandsIn g) Nothing (joined g first) s good
+        (IsGoodFor g first) (StandsIn g) Nothing (joined g first placed) s good
         (inputs_of r) formed.pc))
 
     inputs_are : inputs_at 0 t (lone_of g []) g.view ≡ inputs_of r
@@ -201,22 +202,22 @@ module _ (g : Guest) (t : ℕ) (first : List ℕ) where
 
     -- the lone step, by what the host's step comes to
     lone_is : lone.stepped (plan_of g) 0 t before (view_of g r Started) ≡ lone.after (plan_of g) 0 t
-        before (view_of g r Started) (seen_outcome (outcome_of r bytes))
+        before (view_of g r Started) (seen_outcome (outcome_of r first))
     lone_is =
         ap (λ i. lone.after (plan_of g) 0 t before (view_of g r Started)
         (step (lone_bus (plan_of g)) i (hart_of before (view_of g r Started)))) inputs_are
         ∙ ap (lone.after (plan_of g) 0 t before (view_of g r Started)) one.same
 
-    next_is : LeavesNext r.pc (outcome_of r bytes)
-    next_is = step_next (bus_of r) s (inputs_of r)
+    next_is : LeavesNext r.pc (outcome_of r first)
+    next_is = step_next (bus_of r first) s (inputs_of r)
 
     -- the machine with this state of the hart, in host memory
     abbrev after_state : State (List ℕ) ℕ → HartState → After
     after_state u state = goes_on 0 before (view_of g r Started) (seen u) state
 
     module _ (next : Regs) (now : List ℕ) (exit : Exit)
-        (stepped : came exit next now ≡ hart_step r bytes) where
-      step_is : came exit next now ≡ exit_of r bytes (outcome_of r bytes)
+        (stepped : came exit next now ≡ hart_step r first) where
+      step_is : came exit next now ≡ exit_of r first (outcome_of r first)
       unfolding hart_step
       step_is = stepped
 
@@ -228,16 +229,16 @@ module _ (g : Guest) (t : ℕ) (first : List ℕ) where
       -- a hart that made its step
       pub done_is : ((trap : HTrap) → exit ≡ Trap trap → ⊥)
           → after_of g next now Started ≡ lone.stepped (plan_of g) 0 t before (view_of g r Started)
-      done_is no_trap = by_outcome (outcome_of r bytes) next_is step_is ∙ sym lone_is
+      done_is no_trap = by_outcome (outcome_of r first) next_is step_is ∙ sym lone_is
         where
           by_outcome : (o : Outcome (List ℕ) ℕ) → LeavesNext r.pc o
-              → came exit next now ≡ exit_of r bytes o
+              → came exit next now ≡ exit_of r first o
               → after_of g next now Started
               ≡ lone.after (plan_of g) 0 t before (view_of g r Started) (seen_outcome o)
           by_outcome (Went u) _ e = ap (λ (h : HStep). after_state h.state Started) e
           by_outcome (Raised cause tval) is e =
               ap (λ (h : HStep). after_state h.state Started)
-              (e ∙ entered r bytes cause tval formed.guest is)
+              (e ∙ entered r first cause tval formed.guest is)
           by_outcome (Left ask) _ e =
               absurd (no_trap (trap_of r.user ask) (ap (λ (h : HStep). h.exit) e))
 
@@ -245,20 +246,20 @@ module _ (g : Guest) (t : ℕ) (first : List ℕ) where
       pub trap_is : (trap : HTrap) → exit ≡ Trap trap
           → monitored (plan_of g) 0 t (on_hart_of g next now Started) (view_of g next Started) trap
           ≡ lone.stepped (plan_of g) 0 t before (view_of g r Started)
-      trap_is trap left = by_outcome (outcome_of r bytes) next_is step_is ∙ sym lone_is
+      trap_is trap left = by_outcome (outcome_of r first) next_is step_is ∙ sym lone_is
         where
           one_trap : (a b : HTrap) → Trap a ≡ Trap b → a ≡ b
           one_trap a b e = cc
 
           by_outcome : (o : Outcome (List ℕ) ℕ) → LeavesNext r.pc o
-              → came exit next now ≡ exit_of r bytes o
+              → came exit next now ≡ exit_of r first o
               → monitored (plan_of g) 0 t (on_hart_of g next now Started) (view_of g next Started)
               trap ≡ lone.after (plan_of g) 0 t before (view_of g r Started) (seen_outcome o)
           by_outcome (Went u) _ e = let no : Trap trap ≡ Done =
               sym left ∙ ap (λ (h : HStep). h.exit) e in cc
           by_outcome (Raised cause tval) is e = let no : Trap trap ≡ Done =
               sym left
-              ∙ ap (λ (h : HStep). h.exit) (e ∙ entered r bytes cause tval formed.guest is) in cc
+              ∙ ap (λ (h : HStep). h.exit) (e ∙ entered r first cause tval formed.guest is) in cc
           by_outcome (Left ask) is_next e =
               let same : Trap trap ≡ Trap (trap_of r.user ask) =
               sym left ∙ ap (λ (h : HStep). h.exit) e in
@@ -276,39 +277,39 @@ module _ (g : Guest) (t : ℕ) (first : List ℕ) where
       -- ---- what stands after it
 
       good_after : IsGood (state_of next now)
-      good_after = by_outcome (outcome_of r bytes) next_is one.good step_is
+      good_after = by_outcome (outcome_of r first) next_is one.good step_is
         where
           by_outcome : (o : Outcome (List ℕ) ℕ) → LeavesNext r.pc o → LeavesGood o
-              → came exit next now ≡ exit_of r bytes o → IsGood (state_of next now)
+              → came exit next now ≡ exit_of r first o → IsGood (state_of next now)
           by_outcome (Went u) _ leaves e = subst IsGood (sym (ap (λ (h : HStep). h.state) e)) leaves
           by_outcome (Raised cause tval) is leaves e =
               subst IsGood (sym (ap (λ (h : HStep). h.state)
-              (e ∙ entered r bytes cause tval formed.guest is)))
+              (e ∙ entered r first cause tval formed.guest is)))
               (record { memory = good.memory; held = good.held })
           by_outcome (Left ask) _ leaves e = subst IsGood (sym (ap (λ (h : HStep). h.state) e)) good
 
       record SameRest (h : HStep) : Type 0 where
-        window : h.window ≡ r.window
+        root : root_of h.h ≡ root_of r.h
         time : guest_time h.time h.h ≡ guest_time r.time r.h
 
       same_rest : SameRest (came exit next now)
-      same_rest = subst SameRest (sym step_is) (by_outcome (outcome_of r bytes))
+      same_rest = subst SameRest (sym step_is) (by_outcome (outcome_of r first))
         where
           by_delegated : (delegated : Bool) (e f : HStep) → SameRest e → SameRest f
               → SameRest (cond delegated e f)
           by_delegated true e f of_e of_f = of_e
           by_delegated false e f of_e of_f = of_f
 
-          by_outcome : (o : Outcome (List ℕ) ℕ) → SameRest (exit_of r bytes o)
-          by_outcome (Went u) = record { window = refl; time = refl }
+          by_outcome : (o : Outcome (List ℕ) ℕ) → SameRest (exit_of r first o)
+          by_outcome (Went u) = record { root = refl; time = refl }
           by_outcome (Raised cause tval) =
-              by_delegated (is_delegated r.h cause) _ _ (record { window = refl; time = refl })
-              (record { window = refl; time = refl })
-          by_outcome (Left ask) = record { window = refl; time = refl }
+              by_delegated (is_delegated r.h cause) _ _ (record { root = refl; time = refl })
+              (record { root = refl; time = refl })
+          by_outcome (Left ask) = record { root = refl; time = refl }
 
       pub on_after : IsOnHart g t next
       on_after = record {
-        window = same_rest.window ∙ on.window;
+        root = same_rest.root ∙ on.root;
         time = same_rest.time ∙ on.time;
         reserved = reserved_inside next.held good_after.held;
       }

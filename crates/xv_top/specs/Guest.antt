@@ -1,6 +1,6 @@
 -- What the guest in the program is: a lone machine, over host memory.
-use Rattle.std.specs.Prelude.{ℕ, ◌≡◌, ◌+◌, ◌-◌, ◌%◌, ◌^◌, ◌<◌, ◌≤◌, List, [], ◌∷◌, ◌++◌, length}
-use Rattle.std.specs.Prelude.{Option, Some, None}
+use Rattle.std.specs.Prelude.{ℕ, ◌≡◌, ◌+◌, ◌-◌, ◌*◌, ◌/◌, ◌%◌, ◌^◌, ◌<◌, ◌≤◌, List, [], ◌∷◌, ◌++◌}
+use Rattle.std.specs.Prelude.{length, replicate, true, ◌&&◌, nat_le, nat_lt, if◌then◌else◌, Option, Some, None}
 use Rattle.std.specs.List.{All}
 use Rattle.xv_mem.specs.Bytes.{range}
 use Rattle.xv_csr.specs.Fields.{IsInstructionAddress}
@@ -9,18 +9,22 @@ use Rattle.xv_csr.specs.declared.Lines.{Lines}
 use Rattle.xv_hcsr.specs.declared.HCsrs.{HCsrs}
 use Rattle.xv_hcsr.specs.Guest.{guest_hcsrs}
 use Rattle.xv_hcsr.specs.Lines.{with_lines}
+use Rattle.xv_hcsr.specs.Stage.{root_of}
 use Rattle.xv_hcsr.specs.Time as hcsr
+use Rattle.xv_pte.specs.declared.g_entry.Mapping.{Mapping}
+use Rattle.xv_pte.specs.GStage.{led, IsTableOf}
 use Rattle.xv_step.specs.State.{held_as}
-use Rattle.xv_hart.specs.declared.window.Window.{Window}
 use Rattle.xv_hart.specs.declared.regs.Held.{Held}
 use Rattle.xv_hart.specs.declared.regs.Regs.{Regs}
 use Rattle.xv_hart.specs.Step.{held_of}
-use Rattle.xv_lone.specs.declared.vcpu.GuestState.TheVariants.{Reset}
+use Rattle.xv_lone.specs.declared.vcpu.GuestState.{GuestState}
+use Rattle.xv_lone.specs.declared.vcpu.GuestState.TheVariants.{Reset, Running, Paused, Halted}
 use Rattle.xv_lone.specs.declared.vcpu.HartState.{HartState}
 use Rattle.xv_lone.specs.declared.vcpu.TurnEnd.{TurnEnd}
 use Rattle.xv_lone.specs.declared.vcpu.VcpuView.{VcpuView}
 use Rattle.xv_region.specs.declared.plan.Kind.TheVariants.{Ram}
 use Rattle.xv_region.specs.declared.plan.Region.{Region}
+use Rattle.xv_region.specs.Need.{need}
 use Rattle.xv_region.specs.Plan.{Plan}
 use Rattle.xv_lone.specs.Memory.{Place}
 use Rattle.xv_lone.specs.Vcpu.{reset_vcpu}
@@ -32,7 +36,7 @@ use Rattle.xv_lone.specs.Trail.{IsTrail, IsPiece}
 use Rattle.xv_top.specs.declared.guest.Guest.{Guest}
 use Rattle.xv_top.specs.declared.plan.BuiltPlan.{BuiltPlan}
 use Rattle.xv_top.specs.declared.plan.RamRegion.{RamRegion}
-use Rattle.xv_top.specs.Layout.{host_base}
+use Rattle.xv_top.specs.Layout.{host_base, root_frames}
 
 -- one region of RAM, and one VCPU
 abbrev pub region_of : RamRegion → Region
@@ -57,10 +61,13 @@ lone_of g bytes = record {
 abbrev pub time_of : Guest → (clock : ℕ) → ℕ
 time_of g clock = guest_time clock (lone_of g [])
 
--- where the guest's memory lies, and where it ends
-abbrev pub window_of : Guest → Window
-window_of g = record { base = g.plan.ram.base; size = g.plan.ram.size; host = host_base }
+-- the host address of n bytes at a guest physical address, where they lie in the guest's memory
+abbrev pub host_of : Guest → (n gpa : ℕ) → Option ℕ
+host_of g n gpa =
+    if nat_le g.plan.ram.base gpa && nat_le (gpa + n) (g.plan.ram.base + g.plan.ram.size)
+    then Some (host_base + (gpa - g.plan.ram.base)) else None
 
+-- where it ends
 abbrev pub host_end : Guest → ℕ
 host_end g = host_base + g.plan.ram.size
 
@@ -102,7 +109,6 @@ regs_of_guest g clock = record {
   user = g.view.user;
   csrs = g.view.csrs;
   h = hcsrs_of_guest g (time_of g clock);
-  window = window_of g;
   time = clock;
   held = None;
 }
@@ -153,14 +159,35 @@ pub record IsTurned (g : Guest) (t : ℕ) (first : List ℕ) (r : Regs) (bytes :
 
 -- ---- what it needs of host memory
 
--- the guest's memory begins at a page and lies in a host memory of so many bytes, its pc is an
+-- the frame that a page of the guest's memory has; no other page has one
+abbrev pub own_frame : Guest → ℕ → Option Mapping
+own_frame g page =
+    if nat_le g.plan.ram.base (4096 * page)
+    && nat_lt (4096 * page) (g.plan.ram.base + g.plan.ram.size)
+    then Some (record { frame = root_frames + (page - g.plan.ram.base / 4096); writable = true })
+    else None
+
+-- the guest's memory stands behind root table 0: each of its pages is led to its frame, and no
+-- other page anywhere. The tables lie behind it
+pub record IsBehind (g : Guest) (bytes : List ℕ) : Type 0 where
+  pub led : (page : ℕ) → led bytes 0 page ≡ own_frame g page
+  pub tables : (table : ℕ) → IsTableOf bytes 0 table
+      → (host_end g ≤ 4096 * table) × (4096 * table + 4096 ≤ length bytes)
+
+-- the guest's memory is whole pages and lies in a host memory of so many bytes, its pc is an
 -- instruction's address, and its CSRs hold what writes keep
-pub record IsPlaced (g : Guest) (size : ℕ) : Type 0 where
+pub record IsLaid (g : Guest) (size : ℕ) : Type 0 where
   pub base : g.plan.ram.base % 4096 ≡ 0
+  pub whole : g.plan.ram.size % 4096 ≡ 0
   pub pages : host_end g ≤ size
   pub small : size < 2 ^ 45
   pub pc : IsInstructionAddress g.view.pc
   pub csrs : IsKept g.view.csrs
+
+-- it lies in these host bytes, behind its tables
+pub record IsPlaced (g : Guest) (bytes : List ℕ) : Type 0 where
+  pub laid : IsLaid g (length bytes)
+  pub behind : IsBehind g bytes
 
 -- what is reserved lies in the guest's memory
 abbrev pub ReservedInside : Guest → Option Held → Type 0
@@ -169,20 +196,44 @@ ReservedInside g (Some held) = (host_base ≤ held.host) × (held.host + held.wi
 
 -- the guest's VCPU is on the hart, within a turn at guest time t
 pub record IsOnHart (g : Guest) (t : ℕ) (r : Regs) : Type 0 where
-  pub window : r.window ≡ window_of g
+  pub root : root_of r.h ≡ 0
   pub time : hcsr.guest_time r.time r.h ≡ t
   pub reserved : ReservedInside g r.held
 
--- the trail got one more piece, of a lone step that began with these registers, through the guest's
--- window alone
+-- the trail got one more piece, of a lone step that began with these registers, behind root table 0
+-- alone
 pub record Grows (g : Guest) (r : Regs) (before after : List Regs) : Type 0 where
   pub piece : List Regs
   pub grown : after ≡ before ++ piece
   pub shown : IsPiece core_of (core_of r) piece
-  pub window : All (λ entry. entry.window ≡ window_of g) piece
+  pub root : All (λ entry. root_of entry.h ≡ 0) piece
 
 -- every host byte outside of the memory of a guest that ends there is as before
 pub record SameElsewhere (end : ℕ) (before after : List ℕ) : Type 0 where
   pub size : length after ≡ length before
   pub below : range after 0 host_base ≡ range before 0 host_base
   pub above : range after end (length before - end) ≡ range before end (length before - end)
+
+-- every host byte outside of the memory of a guest that ends there is zero
+pub record IsZeroElsewhere (end : ℕ) (bytes : List ℕ) : Type 0 where
+  pub below : range bytes 0 host_base ≡ replicate host_base 0
+  pub above : range bytes end (length bytes - end) ≡ replicate (length bytes - end) 0
+
+-- what stands outside of the guest's memory, by its state: nothing but zeros before its kick, and
+-- from then on the tables behind which its memory stands
+abbrev pub StandsBy : GuestState → Guest → List ℕ → Type 0
+StandsBy Reset g bytes = IsZeroElsewhere (host_end g) bytes
+StandsBy Running g bytes = IsBehind g bytes
+StandsBy Paused g bytes = IsBehind g bytes
+StandsBy (Halted cause) g bytes = IsBehind g bytes
+
+-- where the frames of its tables end
+abbrev pub tables_end : Guest → ℕ
+tables_end g = 4096 * (root_frames + need (plan_of g).regions)
+
+-- every host byte outside of root table 0 and of the frames of the guest's tables is as before
+pub record SameButTables (g : Guest) (before after : List ℕ) : Type 0 where
+  pub size : length after ≡ length before
+  pub between : range after 16384 (host_end g - 16384) ≡ range before 16384 (host_end g - 16384)
+  pub beyond : range after (tables_end g) (length before - tables_end g)
+      ≡ range before (tables_end g) (length before - tables_end g)

@@ -5,6 +5,7 @@ ghost use Rattle.std.specs.List.{All, concat};
 ghost use Rattle.xv_hart.specs.Hart.{regs_of, taken_by, trail_of};
 ghost use Rattle.xv_hart.specs.Machine.{IsFit};
 ghost use Rattle.xv_hart.specs.Step.{IsWellFormed};
+ghost use Rattle.xv_hcsr.specs.Stage.{root_of};
 ghost use Rattle.xv_lone.specs.Memory.{spot_at};
 ghost use Rattle.xv_lone.specs.Journal as journal;
 ghost use Rattle.xv_lone.specs.Ready as ready;
@@ -14,17 +15,17 @@ ghost use Rattle.xv_lone.specs.Turn as turns;
 ghost use Rattle.xv_lone.specs.Vcpu.{kicked_vcpu};
 ghost use Rattle.xv_lone.specs.declared.vcpu.GuestState.TheVariants.{Running};
 ghost use Rattle.xv_top.specs.Contents.{peeked};
-ghost use Rattle.xv_top.specs.Guest.{plan_of, lone_of, time_of, new_guest, window_of};
+ghost use Rattle.xv_top.specs.Guest.{plan_of, lone_of, time_of, new_guest, host_of};
 ghost use Rattle.xv_top.specs.Guest.{lines_of_guest, hcsrs_of_guest, regs_of_guest, core_of};
-ghost use Rattle.xv_top.specs.Guest.{turned, turn_ending, turn_begun, IsTurned, IsPlaced};
-ghost use Rattle.xv_top.specs.Guest.{SameElsewhere, host_end};
+ghost use Rattle.xv_top.specs.Guest.{turned, turn_ending, turn_begun, IsTurned, IsLaid};
+ghost use Rattle.xv_top.specs.Guest.{IsPlaced, SameElsewhere, host_end};
 
 use crate::layout::HOST_BASE;
 use crate::plan::BuiltPlan;
 use std::sync::ledger::Ledger;
 use xv_base::{GuestKey, GuestName};
 use xv_csr::Lines;
-use xv_hart::{Machine, Regs, Window};
+use xv_hart::{Machine, Regs};
 use xv_hcsr::HCsrs;
 use xv_lone::{GuestState, HartState, TurnEnd, VcpuView};
 use xv_mem::{HostMem, Steps};
@@ -33,7 +34,7 @@ use xv_mem::{HostMem, Steps};
 const TURN_STEPS: u32 = 1000;
 
 /// The one guest has the first root table and the first VMID.
-const ROOT: u8 = 0;
+pub const ROOT: u8 = 0;
 
 const VMID: GuestKey = GuestKey(0);
 
@@ -109,13 +110,18 @@ impl Guest {
         }
     }
 
-    fn window(&self) -> Window
-        ensures { result ≡ window_of self.now }
+    /// The host address of `len` bytes at a guest physical address; None where they don't lie
+    /// wholly in the guest's memory.
+    fn host_of(&self, len: u64, gpa: u64) -> Option<u64>
+        requires { host_end self.now < 2 ^ 64 }
+        ensures { result ≡ host_of self.now len gpa }
     {
-        Window {
-            base: self.plan.ram.base,
-            size: self.plan.ram.size,
-            host: HOST_BASE,
+        let offset = gpa.checked_sub(self.plan.ram.base)?;
+        let end = offset.checked_add(len)?;
+        if end <= self.plan.ram.size {
+            Some(HOST_BASE + offset)
+        } else {
+            None
         }
     }
 
@@ -141,7 +147,6 @@ impl Guest {
             user: self.view.user,
             csrs: self.view.csrs,
             h: self.hcsrs(time),
-            window: self.window(),
             time: clock,
             held: None,
         }
@@ -150,7 +155,7 @@ impl Guest {
     /// Puts bytes into the guest's memory at a guest physical address. False where they don't lie
     /// wholly in it, and then nothing changes.
     pub fn load(&self, mem: &mut HostMem, gpa: u64, bytes: &[u8]) -> bool
-        requires { IsPlaced self.now (length mem.old) }
+        requires { IsLaid self.now (length mem.old) }
         ensures outside { result ≡ false →
             spot_at (plan_of self.now) (length bytes.now) gpa ≡ None }
         ensures untouched { result ≡ false → mem.new ≡ mem.old }
@@ -162,7 +167,7 @@ impl Guest {
         ensures elsewhere { SameElsewhere (host_end self.now) mem.old mem.new }
         ensures size { length mem.new ≡ length mem.old }
     {
-        let Some(at) = self.window().host_of(bytes.len() as u64, gpa) else {
+        let Some(at) = self.host_of(bytes.len() as u64, gpa) else {
             return false;
         };
         mem.copy_in(at, bytes);
@@ -172,12 +177,12 @@ impl Guest {
     /// The `len` bytes of the guest's memory at a guest physical address; None where they don't lie
     /// wholly in it.
     pub fn peek<'a>(&self, mem: &'a HostMem, gpa: u64, len: usize) -> Option<&'a [u8]>
-        requires { IsPlaced self.now (length mem.now) }
+        requires { IsLaid self.now (length mem.now) }
         ensures bytes { option_map (λ bytes. bytes.now) result
             ≡ peeked (plan_of self.now) (lone_of self.now mem.now).memory gpa len }
         ensures count { IfSome result (λ bytes. length bytes.now ≡ len) }
     {
-        let Some(at) = self.window().host_of(len as u64, gpa) else {
+        let Some(at) = self.host_of(len as u64, gpa) else {
             return None;
         };
         Some(mem.lend(at, len))
@@ -185,7 +190,7 @@ impl Guest {
 
     /// All bytes of the guest's memory.
     pub fn contents<'a>(&self, mem: &'a HostMem) -> &'a [u8]
-        requires { IsPlaced self.now (length mem.now) }
+        requires { IsLaid self.now (length mem.now) }
         ensures { result.now ≡ concat (lone_of self.now mem.now).memory }
     {
         mem.lend(HOST_BASE, self.plan.ram.size as usize)
@@ -207,7 +212,7 @@ impl Guest {
         clock: u64,
         steps: &mut Steps<L>,
     ) -> TurnEnd
-        requires placed { IsPlaced self.old (length machine.old.mem) }
+        requires placed { IsPlaced self.old machine.old.mem }
         requires fit { IsFit machine.old }
         requires few { taken_by machine.old.hart < 2 ^ 62 }
         requires ready { ready.is_ready 0 (time_of self.old clock) (lone_of self.old []) ≡ true }
@@ -216,14 +221,14 @@ impl Guest {
         ensures ending { result ≡ turn_ending self.old clock machine.old.mem }
         ensures trail { IsTrail core_of (turn_begun self.old clock machine.old.mem)
             (trail_of machine.new.hart) }
-        ensures window { All (λ r. r.window ≡ window_of self.old) (trail_of machine.new.hart) }
+        ensures root { All (λ r. root_of r.h ≡ 0) (trail_of machine.new.hart) }
         ensures taken { taken_by machine.new.hart
             ≡ taken_by machine.old.hart + length (trail_of machine.new.hart) }
         ensures few { length (trail_of machine.new.hart) ≤ 13000 }
         ensures others { self.new ≡ record self.old { view = self.new.view } }
         ensures elsewhere { SameElsewhere (host_end self.old) machine.old.mem machine.new.mem }
         ensures area { machine.new.area ≡ machine.old.area }
-        ensures placed { IsPlaced self.new (length machine.new.mem) }
+        ensures placed { IsPlaced self.new machine.new.mem }
         ensures size { length machine.new.mem ≡ length machine.old.mem }
         ensures fit { IsFit machine.new }
     {
@@ -250,7 +255,7 @@ impl Guest {
 
     // Lone steps, as many as a turn may have, or up to one that leaves the VCPU waiting or stopped.
     fn run<L: Ledger>(&self, machine: &mut Machine, clock: u64, steps: &mut Steps<L>) -> HartState
-        requires placed { IsPlaced self.now (length machine.old.mem) }
+        requires placed { IsPlaced self.now machine.old.mem }
         requires fit { IsFit machine.old }
         requires few { taken_by machine.old.hart < 2 ^ 62 }
         requires begun { regs_of machine.old.hart ≡ regs_of_guest self.now clock }
@@ -262,7 +267,7 @@ impl Guest {
         ensures turn { IsTurned self.now (time_of self.now clock) machine.old.mem
             (regs_of machine.new.hart) machine.new.mem (trail_of machine.new.hart) result }
         ensures formed { IsWellFormed (regs_of machine.new.hart) }
-        ensures window { All (λ r. r.window ≡ window_of self.now) (trail_of machine.new.hart) }
+        ensures root { All (λ r. root_of r.h ≡ 0) (trail_of machine.new.hart) }
         ensures taken { taken_by machine.new.hart
             ≡ taken_by machine.old.hart + length (trail_of machine.new.hart) }
         ensures few { length (trail_of machine.new.hart) ≤ 13000 }

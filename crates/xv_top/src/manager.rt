@@ -1,6 +1,7 @@
 //! The manager: what each line of a script does to the guests, and what it answers.
 ghost use Rattle.std.specs.Prelude.{◌≡◌, ℕ, ◌+◌, ◌-◌, ◌*◌, ◌^◌, ◌<◌, ◌≤◌, List, [], length, Option};
-ghost use Rattle.std.specs.Prelude.{Some, None, option_map, IfSome, OnOk, OnErr, IsErrOf, true};
+ghost use Rattle.std.specs.Prelude.{Some, None, option_map, IfSome, IfOk, OnOk, OnErr, IsErrOf};
+ghost use Rattle.std.specs.Prelude.{true};
 ghost use Rattle.std.specs.Str.{bytes_eq};
 ghost use Rattle.xv_base.specs.Fault.{Rose};
 ghost use Rattle.xv_hart.specs.Hart.{taken_by};
@@ -19,25 +20,30 @@ mod poke;
 mod put;
 mod regs;
 mod run;
+mod stand;
+mod start;
 
 use crate::guest::Guest;
 use crate::layout::ROOT_FRAMES;
 use crate::refusals;
 use crate::stop::LineStop;
+use start::{some_map, up_from};
 use std::alloc::Global;
 use std::sync::ledger::Ledger;
-use xv_base::{GuestName, Span};
+use xv_base::{GuestName, NoMemory, Span};
 use xv_hart::Machine;
 use xv_mem::Steps;
 use xv_outside::Files;
 use xv_print::Printer;
+use xv_region::RegionMap;
 use xv_script::{Command, Line};
 
 /// The tick before a script changes it.
 const FIRST_TICK: u64 = 100;
 
-/// The guests, the clock and the scheduler's counts.
-#[derive(Clone, Copy)]
+/// The guests, the clock and the scheduler's counts. All memory that it ever takes is taken by
+/// `new`.
+#[derive(Drop)]
 pub struct Manager {
     pool: u32,
     area: Span,
@@ -45,9 +51,14 @@ pub struct Manager {
     tick: u64,
     turns: u32,
     guest: Option<Guest>,
+    // the frames that guests may take, in order
+    frames: Vec<u32>,
+    // the one region of the guest whose tables were filled last
+    map: RegionMap,
 }
 
 impl Manager {
+    ghost use Rattle.xv_lone.specs.Ready.{is_reset};
     ghost use Rattle.xv_top.specs.Answer.{Answer, says, where_there, where_reset};
     ghost use Rattle.xv_top.specs.Commands.{answer, is_fetching, is_loadable};
     ghost use Rattle.xv_top.specs.Files.{StandsFor};
@@ -55,26 +66,31 @@ impl Manager {
     ghost use Rattle.std.specs.Prelude.{replicate};
     ghost use Rattle.xv_hart.specs.Machine.{area_of};
     ghost use Rattle.xv_top.specs.Layout.{memory_size, root_frames};
-    ghost use Rattle.xv_top.specs.Manager.{live_guest, world_of, Gives, Keeps, HasStopped, IsSound};
+    ghost use Rattle.xv_top.specs.Manager.{live_guest, world_of, Gives, KeepsFor, HasStopped};
+    ghost use Rattle.xv_top.specs.Manager.{IsSound};
     ghost use Rattle.xv_script.specs.Command.{IsInRange};
 
     /// A manager with no guest yet, over a machine whose memory is zeros.
-    pub fn new(machine: &Machine) -> Manager
+    pub fn new(alloc: Global, machine: &Machine) -> Result<Manager, NoMemory>
         requires frames { 4096 * root_frames ≤ length machine.now.mem }
         requires small { length machine.now.mem < 2 ^ 44 }
         requires zeros { machine.now.mem ≡ replicate (length machine.now.mem) 0 }
-        ensures world { (mib : ℕ) (bytes : List ℕ) → length machine.now.mem ≡ memory_size mib →
-            machine.now.area ≡ area_of mib 0 → world_of result bytes ≡ worlds.first_world mib }
-        ensures sound { IsSound result machine.now.mem }
+        ensures world { IfOk result (λ m. (mib : ℕ) (bytes : List ℕ) →
+            length machine.now.mem ≡ memory_size mib → machine.now.area ≡ area_of mib 0 →
+            world_of m bytes ≡ worlds.first_world mib) }
+        ensures sound { IfOk result (λ m. IsSound m machine.now.mem) }
     {
-        Manager {
-            pool: machine.mem.frames() - ROOT_FRAMES,
+        let pool = machine.mem.frames() - ROOT_FRAMES;
+        Ok(Manager {
+            pool,
             area: machine.area,
             clock: 0,
             tick: FIRST_TICK,
             turns: 0,
             guest: None,
-        }
+            frames: up_from(alloc, ROOT_FRAMES, pool)?,
+            map: some_map(alloc)?,
+        })
     }
 
     /// The live guest of that name.
@@ -122,6 +138,7 @@ impl Manager {
         ensures next { IfSome result (λ g. (bytes : List ℕ) (next : worlds.LiveGuest → Answer) →
             where_reset (world_of self.now bytes) next
             (worlds.guest_named name.now (world_of self.now bytes)) ≡ next (live_guest g bytes)) }
+        ensures reset { IfSome result (λ g. is_reset g.state ≡ true) }
         ensures loadable { IfSome result (λ g. (bytes : List ℕ) →
             is_loadable (worlds.guest_named name.now (world_of self.now bytes)) ≡ true) }
         ensures empty { IfSome result (λ g. printer.new ≡ []) }
@@ -165,7 +182,8 @@ impl Manager {
             (taken_by machine.old.hart) (taken_by machine.new.hart)) }
         ensures keeps { OnOk result ((told : FileMap) → StandsFor (F.map files.old) told
             (is_fetching (world_of self.old machine.old.mem) line.now.command) →
-            Keeps (answer told (world_of self.old machine.old.mem) line.now.command)
+            KeepsFor line.now.command
+            (answer told (world_of self.old machine.old.mem) line.now.command)
             self.old machine.old.mem machine.new.mem) }
         ensures stopped { OnErr result
             (HasStopped self.old self.new machine.old machine.new printer.new) }
@@ -196,7 +214,7 @@ impl Manager {
                 Ok(())
             }
             Command::Kick(name) => {
-                self.kick(name, printer);
+                self.kick(machine, name, printer);
                 Ok(())
             }
             Command::Regs(name, vcpu) => {

@@ -44,7 +44,7 @@ impl Guest {
         time: u64,
         steps: &mut Steps<L>,
     ) -> HartState
-        requires placed { IsPlaced self.now (length machine.old.mem) }
+        requires placed { IsPlaced self.now machine.old.mem }
         requires on { IsOnHart self.now time (regs_of machine.old.hart) }
         requires formed { IsWellFormed (regs_of machine.old.hart) }
         requires room { length (trail_of machine.old.hart) + most_tries
@@ -82,7 +82,6 @@ impl Guest {
             ≡ monitored (plan_of self.now) 0 time
             (on_hart_of self.now regs.old bytes states.Started)
             (view_of self.now regs.old states.Started) trap.now }
-        ensures window { regs.new.window ≡ regs.old.window }
         ensures time { regs.new.time ≡ regs.old.time }
         ensures h { regs.new.h ≡ regs.old.h }
         ensures held { regs.new.held ≡ regs.old.held }

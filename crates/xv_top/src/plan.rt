@@ -83,7 +83,8 @@ impl BuiltPlan {
 }
 
 impl RamRegion {
-    fn region(&self) -> Region
+    /// The region that it is.
+    pub fn region(&self) -> Region
         ensures { result ≡ region_of self.now }
     {
         Region {

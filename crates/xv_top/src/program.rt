@@ -212,7 +212,9 @@ fn run_script<K: Sink, F: Files>(
         Err(ScriptFault::NoMemory) => return Err(Stop::NoMemory),
         Err(ScriptFault::At { line, kind }) => return refuse(sink, printer, line, kind),
     };
-    let mut manager = Manager::new(machine);
+    let Ok(mut manager) = Manager::new(alloc, machine) else {
+        return Err(Stop::NoMemory);
+    };
     run_counted::<K, F, Brand>(
         alloc,
         sink,

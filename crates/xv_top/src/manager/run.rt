@@ -30,6 +30,8 @@ impl Manager {
             world_of self.new bytes ≡ worlds.passed (world_of self.old bytes) }
         ensures guest { self.new.guest ≡ self.old.guest }
         ensures pool { self.new.pool ≡ self.old.pool }
+        ensures frames { self.new.frames ≡ self.old.frames }
+        ensures map { self.new.map ≡ self.old.map }
         ensures turns { self.new.turns ≡ self.old.turns + 1 }
     {
         self.clock = self.clock.wrapping_add(self.tick);

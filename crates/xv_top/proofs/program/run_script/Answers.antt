@@ -10,8 +10,8 @@ returns-clause-served g c mib size area =
     on_ok_weaker c.run_counted.result
     (λ ran. served_is mib (g.F.Files.map c.args.files.now)
     c.args.text.now c.in-Ok.lines.items c.deref.result.now
-    (world_of c.new-manager.result mem) c.in-Ok.ensures.exact c.deref.ensures.value
-    (c.new-manager.ensures.world mib mem size area)
+    (world_of c.in-Ok-new.manager mem) c.in-Ok.ensures.exact c.deref.ensures.value
+    (c.in-Ok-new.ensures.world mib mem size area)
     (g.K.Sink.taken c.args.sink.now) (g.K.Sink.taken c.run_counted.new.sink) c.args.machine.now
     c.run_counted.new.machine c.run_counted.new.manager (c.run_counted.ensures.size ∙ size)
     (c.run_counted.ensures.area ∙ area) ran) c.run_counted.ensures.ran
@@ -21,8 +21,8 @@ returns-clause-cut g c mib size area ended =
     let mem = c.args.machine.now.mem in
     cut_line_is mib (g.F.Files.map c.args.files.now)
     c.args.text.now c.in-Ok.lines.items c.deref.result.now
-    (world_of c.new-manager.result mem) c.in-Ok.ensures.exact c.deref.ensures.value
-    (c.new-manager.ensures.world mib mem size area)
+    (world_of c.in-Ok-new.manager mem) c.in-Ok.ensures.exact c.deref.ensures.value
+    (c.in-Ok-new.ensures.world mib mem size area)
     (g.K.Sink.taken c.args.sink.now) (g.K.Sink.taken c.run_counted.new.sink) c.args.machine.now
     c.run_counted.new.machine c.run_counted.new.manager (c.run_counted.ensures.size ∙ size)
     (c.run_counted.ensures.area ∙ area) (c.run_counted.ensures.cut ended)
@@ -32,8 +32,8 @@ returns-clause-stopped g c mib stop size area ended =
     let mem = c.args.machine.now.mem in
     stop_is mib (g.F.Files.map c.args.files.now)
     c.args.text.now c.in-Ok.lines.items c.deref.result.now
-    (world_of c.new-manager.result mem) c.in-Ok.ensures.exact c.deref.ensures.value
-    (c.new-manager.ensures.world mib mem size area)
+    (world_of c.in-Ok-new.manager mem) c.in-Ok.ensures.exact c.deref.ensures.value
+    (c.in-Ok-new.ensures.world mib mem size area)
     (g.K.Sink.taken c.args.sink.now) (g.K.Sink.taken c.run_counted.new.sink) c.args.machine.now
     c.run_counted.new.machine c.run_counted.new.manager (c.run_counted.ensures.size ∙ size)
     (c.run_counted.ensures.area ∙ area) (c.run_counted.ensures.stopped stop ended)

@@ -25,7 +25,7 @@ returns-in-Err-clause-step g c =
     let bytes = c.args.mem.now in
     ◌∙◌ {b = fetch_of r bytes}
     (c.in-Err.ensures.stops (Target kinds.Fetch r.pc)
-    (at_word (bus_of r) (inputs_of r) (state_of r bytes)) (λ gpa. refl))
+    (at_word (bus_of r bytes) (inputs_of r) (state_of r bytes)) (λ gpa. refl))
     (sym (step_is r bytes None (ap (chosen_interrupt r.csrs r.user) (sym c.lines.ensures)
     ∙ (sym c.chosen.ensures ∙ c.in_default.is))))
 
@@ -33,14 +33,14 @@ pub returns-clause-step : goal.returns-clause-step
 returns-clause-step g c =
     let r = c.args.self.now in
     let bytes = c.args.mem.now in
-    let bus = bus_of r in
+    let bus = bus_of r bytes in
     ◌∙◌ {b = fetch_of r bytes}
     (◌∙◌ {b = exit_of r bytes (at_word bus (inputs_of r) (state_of r bytes) c.in-Ok.at)}
     (◌∙◌ {b = exit_of r bytes
     (executed bus (inputs_of r) (state_of r bytes) c.read32-word.result
     (decode_of c.read32-word.result))}
     (c.execute.ensures.came ∙ ap (λ now. exit_of now bytes
-    (executed (bus_of now) (inputs_of now) (state_of now bytes) c.read32-word.result
+    (executed (bus_of now bytes) (inputs_of now) (state_of now bytes) c.read32-word.result
     (decode_of c.read32-word.result))) c.in-Ok.ensures.stays)
     (ap (λ word. exit_of r bytes
     (executed bus (inputs_of r) (state_of r bytes) word (decode_of word)))

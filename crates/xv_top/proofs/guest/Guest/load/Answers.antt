@@ -1,5 +1,4 @@
 use Rattle.std.proofs.Common.{◌∙◌, subst, sym, ap, length}
-use Rattle.xv_hart.specs.Window.{host_of}
 use Rattle.xv_top.specs.Guest.{lone_of, host_end, SameElsewhere}
 use Rattle.xv_top.proofs.GuestLemmas.{same_load, some_load, no_load, load_elsewhere}
 use Rattle.xv_top.proofs.guest.Guest.load.Goals as goal
@@ -8,7 +7,7 @@ pub returns-in_default-clause-outside : goal.returns-in_default-clause-outside
 returns-in_default-clause-outside c _ =
     let n = length c.args.bytes.now in
     no_load c.args.self.now c.args.gpa n
-    (ap (λ w. host_of w n c.args.gpa) (sym c.window.ensures) ∙ sym c.in_default.ensures)
+    (sym c.in_default.ensures)
 
 pub returns-clause-loaded : goal.returns-clause-loaded
 returns-clause-loaded c _ =
@@ -16,15 +15,13 @@ returns-clause-loaded c _ =
     let n = length c.args.bytes.now in
     ap (lone_of g) c.copy_in.ensures.bytes
     ∙ same_load g c.args.mem.now c.args.bytes.now c.args.gpa c.in-Some.at c.requires.pages
-    (ap (λ w. host_of w n c.args.gpa) (sym c.window.ensures)
-    ∙ (sym c.host_of.ensures ∙ c.in-Some.is))
+    ((sym c.host_of.ensures ∙ c.in-Some.is))
 
 pub returns-clause-inside : goal.returns-clause-inside
 returns-clause-inside c _ =
     let n = length c.args.bytes.now in
     some_load c.args.self.now c.args.gpa n c.in-Some.at
-    (ap (λ w. host_of w n c.args.gpa) (sym c.window.ensures)
-    ∙ (sym c.host_of.ensures ∙ c.in-Some.is))
+    ((sym c.host_of.ensures ∙ c.in-Some.is))
 
 pub returns-clause-elsewhere : goal.returns-clause-elsewhere
 returns-clause-elsewhere c =
@@ -32,5 +29,4 @@ returns-clause-elsewhere c =
     let n = length c.args.bytes.now in
     subst (SameElsewhere (host_end g) c.args.mem.now) (sym c.copy_in.ensures.bytes)
     (load_elsewhere g c.args.mem.now c.args.bytes.now c.args.gpa c.in-Some.at c.requires.pages
-    (ap (λ w. host_of w n c.args.gpa) (sym c.window.ensures)
-    ∙ (sym c.host_of.ensures ∙ c.in-Some.is)))
+    ((sym c.host_of.ensures ∙ c.in-Some.is)))

@@ -1,5 +1,4 @@
 use Rattle.std.proofs.Common.{◌∙◌, Some, option_map, length, sym, ap}
-use Rattle.xv_hart.specs.Window.{host_of}
 use Rattle.xv_mem.proofs.Puts.{length-range}
 use Rattle.xv_top.specs.Guest.{lone_of}
 use Rattle.xv_top.specs.Contents.{bytes_of_spot}
@@ -11,15 +10,14 @@ returns-in_default-clause-bytes c =
     let g = c.args.self.now in
     sym (ap (option_map (bytes_of_spot (lone_of g c.args.mem.now).memory c.args.len))
     (no_load g c.args.gpa c.args.len
-    (ap (λ w. host_of w c.args.len c.args.gpa) (sym c.window.ensures) ∙ sym c.in_default.ensures)))
+    (sym c.in_default.ensures)))
 
 pub returns-clause-bytes : goal.returns-clause-bytes
 returns-clause-bytes c =
     let g = c.args.self.now in
     ap Some c.lend.ensures
     ∙ sym (same_peek g c.args.mem.now c.args.gpa c.args.len c.in-Some.at c.requires.pages
-    (ap (λ w. host_of w c.args.len c.args.gpa) (sym c.window.ensures)
-    ∙ (sym c.host_of.ensures ∙ c.in-Some.is)))
+    ((sym c.host_of.ensures ∙ c.in-Some.is)))
 
 pub returns-clause-count : goal.returns-clause-count
 returns-clause-count c =
@@ -28,5 +26,4 @@ returns-clause-count c =
     ap length c.lend.ensures
     ∙ length-range mem c.in-Some.at c.args.len
     (peek_within g c.args.gpa c.args.len c.in-Some.at (length mem) c.requires.pages
-    (ap (λ w. host_of w c.args.len c.args.gpa) (sym c.window.ensures)
-    ∙ (sym c.host_of.ensures ∙ c.in-Some.is)))
+    ((sym c.host_of.ensures ∙ c.in-Some.is)))

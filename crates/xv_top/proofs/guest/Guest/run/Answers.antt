@@ -5,10 +5,12 @@ use Rattle.xv_hart.specs.Hart.{regs_of, trail_of}
 use Rattle.xv_hart.specs.Step.{IsWellFormed}
 use Rattle.xv_lone.specs.Ready.{has_interrupt}
 use Rattle.xv_lone.specs.declared.vcpu.HartState.TheVariants.{Started}
-use Rattle.xv_top.specs.Guest.{lone_of, time_of, window_of, host_end, regs_of_guest, IsOnHart}
+use Rattle.xv_top.specs.Guest.{lone_of, time_of, host_end, regs_of_guest, IsOnHart}
 use Rattle.xv_top.specs.Guest.{IsPlaced, IsTurned}
 use Rattle.xv_top.proofs.GuestLemmas.{same_elsewhere, elsewhere_both}
-use Rattle.xv_top.proofs.BegunLemmas.{begun_time, begun_formed}
+use Rattle.xv_hcsr.specs.Stage.{root_of}
+use Rattle.xv_top.proofs.BegunLemmas.{begun_time, begun_formed, begun_root}
+use Rattle.xv_top.proofs.BehindLemmas.{placed_same}
 use Rattle.xv_top.proofs.TurnLemmas.{IsTurning, turning_starts, turning_goes_on, turning_stops}
 use Rattle.xv_top.proofs.TurnLemmas.{turning_ends, piece_few}
 use Rattle.xv_top.proofs.guest.Guest.run.Goals as goal
@@ -29,14 +31,14 @@ loop-made-init g c =
           (has_interrupt 0 (time_of guest clock) (lone_of guest []) guest.view) c.requires.may));
       on = subst (IsOnHart guest t) (sym begun)
           (record {
-            window = refl;
+            root = begun_root guest clock;
             time = begun_time guest clock ∙ sym c.time-time.ensures;
             reserved = tt {0};
           });
       formed = subst IsWellFormed (sym begun)
-          (begun_formed guest clock c.requires.placed.pc c.requires.placed.csrs);
-      windows = subst (All (λ r. r.window ≡ window_of guest)) (sym none)
-          (All-nil (λ r. r.window ≡ window_of guest));
+          (begun_formed guest clock c.requires.placed.laid.pc c.requires.placed.laid.csrs);
+      roots = subst (All (λ r. root_of r.h ≡ 0)) (sym none)
+          (All-nil (λ r. root_of r.h ≡ 0));
       few = omega (arith, ap length none);
       taken = omega (arith, ap length none);
       elsewhere = same_elsewhere (host_end guest) first;
@@ -46,7 +48,8 @@ loop-made-init g c =
 
 pub lone_step-requires-clause-placed : goal.lone_step-requires-clause-placed
 lone_step-requires-clause-placed g c =
-    subst (IsPlaced c.args.self.now) (sym c.loop-made.invariant.elsewhere.size) c.requires.placed
+    placed_same c.args.self.now c.args.machine.now.mem c.loop-made.machine.mem
+    c.loop-made.invariant.elsewhere c.requires.placed
 
 pub loop-made-preserved : goal.loop-made-preserved
 loop-made-preserved g c =
@@ -64,9 +67,9 @@ loop-made-preserved g c =
           inv.turning step.trail c.in-Started.is;
       on = step.on;
       formed = step.formed;
-      windows = subst (All (λ r. r.window ≡ window_of guest)) (sym step.trail.grown)
-          (All-append (λ r. r.window ≡ window_of guest) (trail_of before.hart) step.trail.piece
-          inv.windows step.trail.window);
+      roots = subst (All (λ r. root_of r.h ≡ 0)) (sym step.trail.grown)
+          (All-append (λ r. root_of r.h ≡ 0) (trail_of before.hart) step.trail.piece
+          inv.roots step.trail.root);
       few = omega (
         arith,
         piece_few guest r (trail_of before.hart) (trail_of after.hart) step.trail,
@@ -96,9 +99,9 @@ returns-in_default g c =
           c.loop-made._made c.loop-made-test.true (trail_of before.hart) (trail_of after.hart)
           inv.turning step.trail c.in_default.not-Started);
       formed = step.formed;
-      window = subst (All (λ r. r.window ≡ window_of guest)) (sym step.trail.grown)
-          (All-append (λ r. r.window ≡ window_of guest) (trail_of before.hart) step.trail.piece
-          inv.windows step.trail.window);
+      root = subst (All (λ r. root_of r.h ≡ 0)) (sym step.trail.grown)
+          (All-append (λ r. root_of r.h ≡ 0) (trail_of before.hart) step.trail.piece
+          inv.roots step.trail.root);
       taken = omega (arith, step.taken, inv.taken);
       few = omega (
         arith,

@@ -3,7 +3,8 @@ use Rattle.std.specs.List.{All}
 use Rattle.xv_hart.specs.Hart.{regs_of, taken_by, trail_of}
 use Rattle.xv_hart.specs.Machine.{IsFit}
 use Rattle.xv_hart.specs.Step.{IsWellFormed}
-use Rattle.xv_top.specs.Guest.{window_of, host_end, IsOnHart, SameElsewhere}
+use Rattle.xv_hcsr.specs.Stage.{root_of}
+use Rattle.xv_top.specs.Guest.{host_end, IsOnHart, SameElsewhere}
 use Rattle.xv_top.proofs.TurnLemmas.{IsTurning}
 use Rattle.xv_top.proofs.guest.Guest.run.Given as goal
 
@@ -16,7 +17,7 @@ invariant-loop-made g l =
           (trail_of hart);
       on : IsOnHart l.self l.time (regs_of hart);
       formed : IsWellFormed (regs_of hart);
-      windows : All (λ r. r.window ≡ window_of l.self) (trail_of hart);
+      roots : All (λ r. root_of r.h ≡ 0) (trail_of hart);
       few : length (trail_of hart) ≤ 13 * l._made;
       taken : taken_by hart ≡ taken_by l.fn.machine.hart + length (trail_of hart);
       elsewhere : SameElsewhere (host_end l.self) l.fn.machine.mem l.machine.mem;
