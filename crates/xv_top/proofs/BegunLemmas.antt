@@ -1,10 +1,8 @@
 -- The registers with which a turn begins.
-use Rattle.std.proofs.Common.{◌≡◌, ℕ, ◌+◌, ◌-◌, ◌%◌, ◌^◌, Bool, refl, sym, ap, ◌∙◌, arith}
+use Rattle.std.proofs.Common.{◌≡◌, ℕ, ◌+◌, ◌-◌, ◌%◌, ◌^◌, refl, sym, ap, ◌∙◌, arith}
 use Rattle.xv_csr.specs.Fields.{IsInstructionAddress}
 use Rattle.xv_csr.specs.Kept.{IsKept}
-use Rattle.xv_hcsr.specs.declared.HCsrs.{HCsrs}
 use Rattle.xv_hcsr.specs.Guest.{guest_hcsrs, IsForGuest}
-use Rattle.xv_hcsr.specs.Lines.{with_lines}
 use Rattle.xv_hcsr.specs.Stage.{root_of}
 use Rattle.xv_hcsr.specs.Time.{guest_time, delta_of}
 use Rattle.xv_hcsr.proofs.LineLemmas.{with_lines-software}

@@ -1,14 +1,13 @@
 -- The tables behind which a guest's memory stands: what a step needs of them, and that they stay
 -- where no byte outside of the guest's memory changes.
-use Rattle.std.proofs.Common.{◌≡◌, ◌≢◌, ℕ, ◌+◌, ◌-◌, ◌*◌, ◌/◌, ◌%◌, ◌<◌, ◌≤◌, Bool, true, false, ◌&&◌}
-use Rattle.std.proofs.Common.{leb, ltb, cond, List, length, Option, Some, None, refl, sym, ap, ◌∙◌}
+use Rattle.std.proofs.Common.{◌≡◌, ℕ, ◌+◌, ◌-◌, ◌*◌, ◌/◌, ◌%◌, ◌≤◌, Bool, true, false, ◌&&◌}
+use Rattle.std.proofs.Common.{leb, ltb, cond, List, length, Some, None, refl, sym, ap, ◌∙◌}
 use Rattle.std.proofs.Common.{subst, arith}
 use Rattle.std.proofs.lemmas.Bool.{and_parts, leb-true, ltb-true}
-use Rattle.xv_mem.specs.Bytes.{range, word_at}
+use Rattle.xv_mem.specs.Bytes.{word_at}
 use Rattle.xv_mem.proofs.Words.{word_at_same_range}
-use Rattle.xv_pte.specs.declared.g_entry.Mapping.{Mapping}
 use Rattle.xv_pte.specs.declared.g_stage.Leaf.{Leaf}
-use Rattle.xv_pte.specs.GStage.{IsTableOf, SameTables, leaf_at, led, walked, word_in}
+use Rattle.xv_pte.specs.GStage.{SameTables, leaf_at, word_in}
 use Rattle.xv_pte.proofs.WalkLocal.{led_local, tables_local}
 use Rattle.xv_csr.specs.Fields.{IsInstructionAddress}
 use Rattle.xv_csr.specs.Kept.{IsKept}

@@ -22,7 +22,7 @@ use Rattle.xv_lone.specs.Journal.{after_load, stored_at}
 use Rattle.xv_top.specs.declared.guest.Guest.{Guest}
 use Rattle.xv_top.specs.Contents.{bytes_of_spot, peeked}
 use Rattle.xv_top.specs.Guest.{plan_of, lone_of, host_end, host_of, place_at, SameElsewhere}
-use Rattle.xv_top.specs.Guest.{own_frame, IsBehind, IsPlaced}
+use Rattle.xv_top.specs.Guest.{IsPlaced}
 use Rattle.xv_top.specs.Layout.{host_base, root_frames}
 use Rattle.xv_pte.specs.GStage.{leaf_at, walked}
 use Rattle.xv_step.proofs.WidthLemmas.{IsAccess, IsWidth, One, Two, Four, Eight}

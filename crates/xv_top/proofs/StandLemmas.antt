@@ -1,5 +1,5 @@
 -- What stands of a guest in host memory, by its state, and that it stays.
-use Rattle.std.proofs.Common.{◌≡◌, ℕ, ◌+◌, ◌-◌, ◌*◌, ◌≤◌, true, List, length, replicate}
+use Rattle.std.proofs.Common.{◌≡◌, ℕ, ◌-◌, ◌≤◌, true, List, length, replicate}
 use Rattle.std.proofs.Common.{Option, Some, None, refl, sym, ap, ◌∙◌, subst, arith}
 use Rattle.xv_mem.specs.Bytes.{range}
 use Rattle.xv_mem.proofs.Puts.{range-range}
@@ -11,7 +11,7 @@ use Rattle.xv_lone.specs.Vcpu.{kicked_vcpu}
 use Rattle.xv_region.specs.Need.{need}
 use Rattle.xv_top.specs.declared.guest.Guest.{Guest}
 use Rattle.xv_top.specs.declared.manager.Manager.{Manager}
-use Rattle.xv_top.specs.Guest.{plan_of, host_end, seen, IsBehind, IsLaid, IsPlaced, StandsBy}
+use Rattle.xv_top.specs.Guest.{host_end, seen, IsBehind, IsLaid, IsPlaced, StandsBy}
 use Rattle.xv_top.specs.Guest.{IsZeroElsewhere, SameButTables, SameElsewhere}
 use Rattle.xv_pool.specs.FrameList.{up_from}
 use Rattle.xv_top.specs.Layout.{host_base, root_frames}

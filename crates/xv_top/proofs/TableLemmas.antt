@@ -1,27 +1,23 @@
 -- The tables of a guest, filled in a host memory that is zero outside of the guest's: its memory
 -- stands behind them, and nothing else changes.
-use Rattle.std.proofs.Common.{◌≡◌, ◌≢◌, ℕ, zero, suc, ◌+◌, ◌-◌, ◌*◌, ◌/◌, ◌%◌, ◌<◌, ◌≤◌, Bool, true, false, ◌&&◌}
+use Rattle.std.proofs.Common.{◌≡◌, ◌≢◌, ℕ, zero, suc, ◌+◌, ◌-◌, ◌*◌, ◌/◌, ◌<◌, ◌≤◌, Bool, true, false, ◌&&◌}
 use Rattle.std.proofs.Common.{leb, ltb, cond, List, [], ◌∷◌, ◌++◌, length, get_or, take, drop}
-use Rattle.std.proofs.Common.{replicate}
-use Rattle.std.proofs.Common.{Option, Some, None, refl, sym, ap, ◌∙◌, subst, arith, inl, inr, ◌⊎◌}
+use Rattle.std.proofs.Common.{Some, None, refl, sym, ap, ◌∙◌, subst, arith, inl, inr, ◌⊎◌}
 use Rattle.std.specs.Prelude.{slice_get}
 use Rattle.std.specs.List.{AllPairs, Contains}
 use Rattle.std.proofs.lemmas.Bool.{and_parts, leb-true, ltb-true, le-leb, lt-leb, lt-ltb, le-ltb}
 use Rattle.std.proofs.lemmas.Bool.{cases_lt}
-use Rattle.std.proofs.lemmas.Bool.Decides.{nat_tests}
 use Rattle.std.proofs.lemmas.Grind.{get_or_default_zero}
 use Rattle.std.proofs.lemmas.Option.{get_or_from_slice_get}
 use Rattle.xv_mem.specs.Bytes.{range}
 use Rattle.xv_mem.proofs.Puts.{range_same, range-range, range-replicate}
 use Rattle.xv_pool.specs.FrameList.{up_from}
-use Rattle.xv_pte.specs.declared.g_entry.Mapping.{Mapping}
-use Rattle.xv_pte.specs.GStage.{IsTableOf, frame_bytes, led}
+use Rattle.xv_pte.specs.GStage.{led}
 use Rattle.xv_region.specs.declared.cell.Cell.{Cell}
 use Rattle.xv_region.specs.declared.cell.Cell.TheVariants as cells
 use Rattle.xv_region.specs.declared.plan.Region.{Region}
 use Rattle.xv_region.specs.Cell.{cell}
 use Rattle.xv_region.specs.Need.{need}
-use Rattle.xv_region.specs.Rules.{Accepted}
 use Rattle.xv_gstage.specs.Memory.{AreApart, AreZero, HasFrames, IsZero, IsZeroRoot, SameOutside}
 use Rattle.xv_gstage.specs.Own.{frame_of, mapping_of, own, own_of, pages_of, region_frames}
 use Rattle.xv_gstage.specs.Own.{reserved_frames, table_frames}
@@ -252,8 +248,7 @@ module _ (g : Guest) (old new : List ℕ) (laid : IsLaid g (length old))
     tables = λ table is.
         let there = in_tables g table
         (take-contains tidy.0 (table_frames (plan_of g).regions (frames_of g)) table
-        ((tidy.1.tables table).0 is)) in
-        (
+        ((tidy.1.tables table).0 is)) in (
           omega (arith, there.0, laid.whole),
           omega (arith, there.1, inside, outside.whole),
         );

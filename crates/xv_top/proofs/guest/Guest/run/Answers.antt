@@ -6,7 +6,7 @@ use Rattle.xv_hart.specs.Step.{IsWellFormed}
 use Rattle.xv_lone.specs.Ready.{has_interrupt}
 use Rattle.xv_lone.specs.declared.vcpu.HartState.TheVariants.{Started}
 use Rattle.xv_top.specs.Guest.{lone_of, time_of, host_end, regs_of_guest, IsOnHart}
-use Rattle.xv_top.specs.Guest.{IsPlaced, IsTurned}
+use Rattle.xv_top.specs.Guest.{IsTurned}
 use Rattle.xv_top.proofs.GuestLemmas.{same_elsewhere, elsewhere_both}
 use Rattle.xv_hcsr.specs.Stage.{root_of}
 use Rattle.xv_top.proofs.BegunLemmas.{begun_time, begun_formed, begun_root}

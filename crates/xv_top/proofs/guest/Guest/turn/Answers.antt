@@ -1,8 +1,8 @@
-use Rattle.std.proofs.Common.{◌∙◌, [], subst, sym, ap}
+use Rattle.std.proofs.Common.{◌∙◌, subst, sym, ap}
 use Rattle.std.proofs.lemmas.Bool.{and_parts}
 use Rattle.xv_hart.specs.Hart.{regs_of, trail_of}
-use Rattle.xv_lone.specs.Ready.{is_running, has_interrupt, may_run}
-use Rattle.xv_top.specs.Guest.{lone_of, view_of, IsTurned, IsPlaced}
+use Rattle.xv_lone.specs.Ready.{is_running}
+use Rattle.xv_top.specs.Guest.{lone_of, view_of, IsPlaced}
 use Rattle.xv_top.proofs.BehindLemmas.{placed_same, placed_with}
 use Rattle.xv_top.proofs.TurnLemmas.{turned_is, trail_is, ending_is}
 use Rattle.xv_top.proofs.guest.Guest.turn.Goals as goal

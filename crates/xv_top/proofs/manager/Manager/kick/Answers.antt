@@ -1,18 +1,15 @@
-use Rattle.std.proofs.Common.{◌≡◌, ◌∙◌, ℕ, ◌+◌, ◌*◌, ◌≤◌, List, [], ◌∷◌, length, Some, subst, refl, sym}
+use Rattle.std.proofs.Common.{◌∙◌, ℕ, List, [], ◌∷◌, length, Some, subst, refl, sym}
 use Rattle.std.proofs.Common.{ap, arith}
-use Rattle.xv_mem.specs.Bytes.{range}
 use Rattle.xv_pool.specs.FrameList.{up_from}
-use Rattle.xv_region.specs.Need.{need}
 use Rattle.xv_lone.specs.declared.vcpu.GuestState.TheVariants.{Running}
 use Rattle.xv_lone.specs.Journal as change
 use Rattle.xv_lone.specs.Vcpu.{kicked_vcpu}
 use Rattle.xv_top.specs.declared.guest.Guest.{Guest}
 use Rattle.xv_top.specs.Answer.{Answer, changes}
-use Rattle.xv_top.specs.Guest.{plan_of, lone_of}
-use Rattle.xv_top.specs.Layout.{host_base, root_frames}
+use Rattle.xv_top.specs.Guest.{lone_of}
+use Rattle.xv_top.specs.Layout.{root_frames}
 use Rattle.xv_top.specs.Manager.{live_guest, world_of, GuestIsSound, SameByKick}
 use Rattle.xv_top.specs.Texts.{kicked_text}
-use Rattle.xv_top.specs.World.{LiveGuest}
 use Rattle.xv_gstage.proofs.OwnLemmas.{length-up}
 use Rattle.xv_top.proofs.ManagerLemmas.{gives_by, change_one, changes_all}
 use Rattle.xv_top.proofs.StandLemmas.{laid_there, zero_there, stands_there, sound_next}

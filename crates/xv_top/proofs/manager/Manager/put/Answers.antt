@@ -1,4 +1,3 @@
-use Rattle.std.proofs.Common.{refl}
 use Rattle.xv_top.proofs.StandLemmas.{laid_there, sound_same}
 use Rattle.xv_top.proofs.manager.Manager.put.Goals as goal
 

@@ -1,5 +1,4 @@
-use Rattle.std.proofs.Common.{◌≡◌, ◌∙◌, ℕ, ◌+◌, ◌*◌, ◌≤◌, List, [], ◌∷◌, length, take, sym, ap, arith}
-use Rattle.xv_region.specs.declared.plan.Region.{Region}
+use Rattle.std.proofs.Common.{◌≡◌, ◌∙◌, ℕ, ◌≤◌, List, [], ◌∷◌, length, take, sym, ap, arith}
 use Rattle.xv_region.specs.Need.{need}
 use Rattle.xv_pte.specs.GStage.{led}
 use Rattle.xv_gstage.specs.Memory.{AreApart, AreZero, HasFrames, SameOutside}

@@ -1,5 +1,4 @@
 use Rattle.std.proofs.Common.{◌∙◌, ◌+◌, [], ◌∷◌, ◌++◌, ap}
-use Rattle.xv_pool.specs.FrameList.{up_from}
 use Rattle.xv_top.proofs.TableLemmas.{up_more}
 use Rattle.xv_top.proofs.manager.start.up_from.Goals as goal
 

@@ -1,0 +1,9 @@
+pub mod RangePages
+pub mod SumLemmas
+pub mod HoldingLemmas
+pub mod TableLemmas
+pub mod CellWidths
+pub mod SpotLemmas
+pub mod AdmitLemmas
+pub mod ReleaseLemmas
+pub mod JoinLemmas
