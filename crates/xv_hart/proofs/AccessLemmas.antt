@@ -66,7 +66,8 @@ module _ (bytes : List ℕ) (root : ℕ) (width : Width) (va gpa at : ℕ)
       by_width W4 e h = omega (arith, e, h)
       by_width W8 e h = omega (arith, e, h)
 
-  pub led_inside : HasStage bytes root → at % bytes_of width ≡ 0 → at + bytes_of width ≤ length bytes
+  pub led_inside : HasStage bytes root → at % bytes_of width ≡ 0 → at + bytes_of width ≤ length
+      bytes
   led_inside has aligned =
       let found = leaf_of (walked bytes root gpa) at to in
       let frame = has.leaves gpa found.0 found.1 in

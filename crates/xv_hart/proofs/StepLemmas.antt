@@ -1,5 +1,6 @@
 -- The step, part by part, and what it keeps.
-use Rattle.std.proofs.Common.{◌≡◌, ℕ, ◌-◌, ◌^◌, Bool, true, false, cond, List, Option, refl, ap, ◌∙◌}
+use Rattle.std.proofs.Common.{◌≡◌, ℕ, ◌-◌, ◌^◌, Bool, true, false, cond, List, Option, refl, ap}
+use Rattle.std.proofs.Common.{◌∙◌}
 use Rattle.std.proofs.Common.{arith}
 use Rattle.std.proofs.lemmas.Nat.{and_or_apart}
 use Rattle.std.proofs.lemmas.Bool.Decides.{nat_tests}
@@ -75,7 +76,8 @@ sepc_aligned csrs kept = omega (arith, kept.sepc)
 -- what a step comes to where the instruction asks for this
 abbrev pub done_by : Regs → List ℕ → (word next : ℕ) → Action → HStep
 done_by r bytes word next a =
-    exit_of r bytes (performed (bus_of r bytes) (inputs_of r) word next (state_of r bytes) (action_of a))
+    exit_of r bytes (performed (bus_of r bytes) (inputs_of r) word next (state_of r bytes)
+    (action_of a))
 
 -- what a step comes to where no interrupt is taken
 abbrev pub fetch_of : Regs → List ℕ → HStep
@@ -95,7 +97,8 @@ module _ (r : Regs) (bytes : List ℕ) where
       ≡ exit_of r bytes (interrupted (bus_of r bytes) (inputs_of r) (state_of r bytes) o)
   unfolding hart_step step
   step_is o chosen =
-      ap (λ c. exit_of r bytes (interrupted (bus_of r bytes) (inputs_of r) (state_of r bytes) c)) chosen
+      ap (λ c. exit_of r bytes (interrupted (bus_of r bytes) (inputs_of r) (state_of r bytes) c))
+      chosen
 
   -- a step keeps the hypervisor CSRs, but for the line that is SSIP
   exit_h : (o : Outcome (List ℕ) ℕ) → (exit_of r bytes o).h ≡ but_software r.h

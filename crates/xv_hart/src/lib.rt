@@ -7,8 +7,8 @@
 //! guest goes through two stages: the guest's own page tables, whose entries are read through the
 //! second stage too, and the tables in host memory that hgatp names.
 //!
-//! Integer results are `xv_alu`'s, CSRs `xv_csr`'s and `xv_hcsr`'s, traps `xv_trap`'s, decoding `xv_isa`'s and the
-//! translation of a guest's virtual addresses `xv_sv39`'s.
+//! Integer results are `xv_alu`'s, CSRs `xv_csr`'s and `xv_hcsr`'s, traps `xv_trap`'s, decoding
+//! `xv_isa`'s and the translation of a guest's virtual addresses `xv_sv39`'s.
 #![tactic(auto)]
 
 mod access;

@@ -19,8 +19,8 @@ use xv_hcsr::HCsrs;
 use xv_mem::{HostMem, Steps};
 use xv_pte::{GEntry, g_entry_of};
 
-/// The instruction, eight bytes of data, the handler of traps, and where SRET leads, all in one page
-/// of RAM; and an address that leads nowhere.
+/// The instruction, eight bytes of data, the handler of traps, and where SRET leads, all in one
+/// page of RAM; and an address that leads nowhere.
 const PC: u64 = 0x8000_0000;
 
 const DATA: u64 = 0x8000_0100;
@@ -493,8 +493,8 @@ fn left_to_the_monitor(rt: HostRuntime) -> Result<(), Fail> {
 }
 
 // the guest's own tables: the root in page 0x80003, the middle one in page 0x80004, the last one in
-// page 0x80005, and a table in the ROM. Their pointers have G, which means nothing in a pointer, and
-// so are none of the second stage
+// page 0x80005, and a table in the ROM. Their pointers have G, which means nothing in a pointer,
+// and so are none of the second stage
 const OWN: [(u64, u64); 10] = [
     (512 * 0x103 + 2, (0x80004 << 10) | 0x21),
     // tables where no leaf is

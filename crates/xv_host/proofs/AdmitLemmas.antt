@@ -1,6 +1,7 @@
 -- What an admit needs of a host, and what it keeps.
 use Rattle.std.proofs.Common.{◌≡◌, ℕ, zero, suc, ◌+◌, ◌*◌, ◌/◌, ◌<◌, ◌≤◌, List, [], ◌∷◌, ◌++◌}
-use Rattle.std.proofs.Common.{length, get_or, set, take, drop, refl, sym, ap, ◌∙◌, subst, arith, inl, inr}
+use Rattle.std.proofs.Common.{length, get_or, set, take, drop, refl, sym, ap, ◌∙◌, subst, arith}
+use Rattle.std.proofs.Common.{inl, inr}
 use Rattle.std.proofs.Common.{Option, Some, None, Bool, true, false, is_some, cond, Ok, ltb}
 use Rattle.std.specs.List.{All, Contains, count_by, list_any, sum_by}
 use Rattle.std.proofs.lemmas.Bool.{cases_lt}
@@ -62,7 +63,8 @@ ranges_amount : (places : Places) → ((j : ℕ) (g : Guest) → guest_at places
     ≤ 32 * count_by is_some places
 ranges_amount [] accepted = omega arith
 ranges_amount (place ∷ places) accepted =
-    let sum = sum_by-cons (amount_at (λ h. sum_by (λ r. 1) (reserved_ranges h.regions))) place places in
+    let sum = sum_by-cons (amount_at (λ h. sum_by (λ r. 1) (reserved_ranges h.regions))) place
+    places in
     let count = sum_by-cons one_if place places in
     let rest = ranges_amount places (λ j g is. accepted (suc j) g is) in
     let here = one_place place (λ g is. accepted 0 g is) in
@@ -124,7 +126,8 @@ module _ (bytes : List ℕ) (pool : Resources) (places : Places)
       let listed = holdings.parted.frames (hit frame) in
       elim (cases_lt frame 64) [
         | inl root ↦
-            (let none = hits-up_from_below frame pool.first pool.count (omega (arith, laid.first)) in
+            (let none = hits-up_from_below frame pool.first pool.count (omega (arith, laid.first))
+            in
             absurd (omega arith))
         | inr past ↦ elim (cases_lt frame (64 + pool.count)) [
           | inl inside ↦ (past, holdings.clean frame (below_end frame inside) (omega arith))
@@ -143,7 +146,8 @@ module _ (bytes : List ℕ) (pool : Resources) (places : Places)
       let listed = holdings.parted.frames (hit frame) in
       let no_list = hits-up_from_below frame pool.first pool.count
       (omega (arith, laid.first, low, is)) in
-      let ranges = range_amounts frame places (λ j g at. ranges_whole g.plan.regions (holdings.parted.accepted j g at)) in
+      let ranges = range_amounts frame places
+      (λ j g at. ranges_whole g.plan.regions (holdings.parted.accepted j g at)) in
       let taken = holdings.parted.ranges (in_range frame) in
       let no_range : sum_by (in_range frame) pool.held ≡ 0 = elim (cases_lt 0
       (sum_by (in_range frame) pool.held)) [
@@ -170,7 +174,8 @@ module _ (bytes : List ℕ) (pool : Resources) (places : Places)
       let no_list = hits-up_from_above frame pool.first pool.count (omega (arith, laid.first)) in
       let no_range = none_has frame pool.held (reserved_ranges regions) apart (omega arith) in
       let parts = amounts frame places in
-      let ranges = range_amounts frame places (λ j g is. ranges_whole g.plan.regions (holdings.parted.accepted j g is)) in
+      let ranges = range_amounts frame places
+      (λ j g is. ranges_whole g.plan.regions (holdings.parted.accepted j g is)) in
       let taken = holdings.parted.ranges (in_range frame) in
       let no_root = root_above frame 0 places (λ j g is. holdings.parted.root j g is
       ∙ ap Some (omega arith)) (omega (arith, holdings.parted.sixteen)) in
@@ -273,12 +278,14 @@ module _ (old new : List ℕ) (pool : Resources) (g : Guest) (k : ℕ) (low : k 
 
 -- ---- an admit
 
-pub tested_parts : (pool : Resources) (n : ℕ) (ranges : List Span) → tested pool n ranges ≡ Ok (tt {0})
+pub tested_parts : (pool : Resources) (n : ℕ) (ranges : List Span) → tested pool n ranges ≡ Ok
+    (tt {0})
     → (all_out pool.roots ≡ false) × (list_any (meets_one pool.held) ranges ≡ false)
 tested_parts pool n ranges is =
     go (all_out pool.roots) (ltb (length pool.free) n) (list_any (meets_one pool.held) ranges) is
   where
-    go : (out few busy : Bool) → cond out (Err NoRoot) (cond few (Err (NoFrame n (length pool.free)))
+    go : (out few busy : Bool) → cond out (Err NoRoot)
+        (cond few (Err (NoFrame n (length pool.free)))
         (cond busy (Err ReservedBusy) (Ok (tt {0})))) ≡ Ok (tt {0}) → (out ≡ false) × (busy ≡ false)
     go true few busy is = cc
     go false true busy is = cc
@@ -296,7 +303,8 @@ module _ (bytes : List ℕ) (pool : Resources) (places : Places)
   pub key_is_root : (k : ℕ) → IsLeast places k → least_root pool.roots ≡ k
   key_is_root k least =
       least_is pool.roots k (root_out k least.inside ∙ ap (λ p. Some (is_some p)) least.free)
-      (λ j before. root_out j (omega (arith, before, least.inside)) ∙ ap Some (least.least j before))
+      (λ j before. root_out j (omega (arith, before, least.inside)) ∙ ap Some
+      (least.least j before))
 
   -- where every key has a guest, no root can be had
   pub all_are_out : ((k : ℕ) → k < 16 → is_some (guest_at places k) ≡ true)

@@ -66,40 +66,42 @@ aligned_sum _ base target a Eight aligned from to le = omega arith
 
 -- ---- all regions
 
-module _ (hop hop' : ℕ → Cell) (width : ℕ) (agree : (b : ℕ) → IsAccess width b → hop b ≡ hop' b) where
-  within_same : (i a base : ℕ) (kind : Kind) → IsAccess width a → base % 8 ≡ 0 → base ≤ a
-      → TargetIsWhole kind → cell_within hop i (a - base) kind ≡ cell_within hop' i (a - base) kind
-  within_same i a base Ram access from le whole = refl
-  within_same i a base Rom access from le whole = refl
-  within_same i a base (Reserved host) access from le whole = refl
-  within_same i a base (Alias target) access from le whole =
-      agree (target + (a - base)) (record {
-        bytes = access.bytes;
-        aligned = aligned_sum width base target a access.bytes access.aligned from whole le;
-      })
-  within_same i a base (Device kind) access from le whole = refl
+module _ (hop hop' : ℕ → Cell) (width : ℕ) (agree : (b : ℕ) → IsAccess width b → hop b ≡ hop' b)
+  where
+    within_same : (i a base : ℕ) (kind : Kind) → IsAccess width a → base % 8 ≡ 0 → base ≤ a
+        → TargetIsWhole kind
+        → cell_within hop i (a - base) kind ≡ cell_within hop' i (a - base) kind
+    within_same i a base Ram access from le whole = refl
+    within_same i a base Rom access from le whole = refl
+    within_same i a base (Reserved host) access from le whole = refl
+    within_same i a base (Alias target) access from le whole =
+        agree (target + (a - base)) (record {
+          bytes = access.bytes;
+          aligned = aligned_sum width base target a access.bytes access.aligned from whole le;
+        })
+    within_same i a base (Device kind) access from le whole = refl
 
-  first_or : (b : Bool) (r : Region) (a : ℕ) → holds (bytes_at a 1) r ≡ b → {one two : Cell}
-      → one ≡ two → (i : ℕ) → IsAccess width a → HasBounds r
-      → cond b (cell_within hop i (a - r.base) r.kind) one
-      ≡ cond b (cell_within hop' i (a - r.base) r.kind) two
-  first_or true r a is same i access bounds =
-      let parts = both (leb r.base a) (leb (a + 1) (r.base + r.size)) is in
-      let low = parts.0 in
-      let le : r.base ≤ a = grind (arith, nat_tests) in
-      within_same i a r.base r.kind access bounds.base le bounds.target
-  first_or false r a is same i access bounds = same
+    first_or : (b : Bool) (r : Region) (a : ℕ) → holds (bytes_at a 1) r ≡ b → {one two : Cell}
+        → one ≡ two → (i : ℕ) → IsAccess width a → HasBounds r
+        → cond b (cell_within hop i (a - r.base) r.kind) one
+        ≡ cond b (cell_within hop' i (a - r.base) r.kind) two
+    first_or true r a is same i access bounds =
+        let parts = both (leb r.base a) (leb (a + 1) (r.base + r.size)) is in
+        let low = parts.0 in
+        let le : r.base ≤ a = grind (arith, nat_tests) in
+        within_same i a r.base r.kind access bounds.base le bounds.target
+    first_or false r a is same i access bounds = same
 
-  pub cells_same : (i a : ℕ) (rs : List Region) → IsAccess width a
-      → ((k : ℕ) (d : Region) → k < length rs → HasBounds (get_or rs k d))
-      → cell_from hop i rs a width ≡ cell_from hop' i rs a 1
-  cells_same i a [] access bounds = refl
-  cells_same i a (r ∷ rs) access bounds =
-      let here = bounds 0 r (omega arith) in
-      let rest = cells_same (suc i) a rs access (λ k d inside. bounds (suc k) d (omega arith)) in
-      ap (λ (b : Bool). cond b (cell_within hop i (a - r.base) r.kind)
-      (cell_from hop (suc i) rs a width)) (holds_same width a r access here)
-      ∙ first_or (holds (bytes_at a 1) r) r a refl rest i access here
+    pub cells_same : (i a : ℕ) (rs : List Region) → IsAccess width a
+        → ((k : ℕ) (d : Region) → k < length rs → HasBounds (get_or rs k d))
+        → cell_from hop i rs a width ≡ cell_from hop' i rs a 1
+    cells_same i a [] access bounds = refl
+    cells_same i a (r ∷ rs) access bounds =
+        let here = bounds 0 r (omega arith) in
+        let rest = cells_same (suc i) a rs access (λ k d inside. bounds (suc k) d (omega arith)) in
+        ap (λ (b : Bool). cond b (cell_within hop i (a - r.base) r.kind)
+        (cell_from hop (suc i) rs a width)) (holds_same width a r access here)
+        ∙ first_or (holds (bytes_at a 1) r) r a refl rest i access here
 
 pub cell_first : (regions : List Region) (width a : ℕ)
     → ((k : ℕ) (d : Region) → k < length regions → HasBounds (get_or regions k d))

@@ -38,7 +38,8 @@ pub once : (bytes : List ℕ) (pool : Resources) (places : Places) → IsLaidOut
 once bytes pool places laid parted frame =
     let parts = amounts frame places in
     let listed = parted.frames (hit frame) in
-    let ranges = range_amounts frame places (λ j g is. ranges_whole g.plan.regions (parted.accepted j g is)) in
+    let ranges = range_amounts frame places
+    (λ j g is. ranges_whole g.plan.regions (parted.accepted j g is)) in
     let taken = parted.ranges (in_range frame) in
     let most = parted.sound.apart (4096 * frame) in
     let roots = root_once frame 0 places (roots_from places parted) in
@@ -149,7 +150,8 @@ module _ (old new : List ℕ) (pool pool' : Resources) (places : Places) (k : �
           omega arith;
       roots = λ j. elim (cases_eq j k) [
         | inl same ↦ ap (λ i. get_or pool'.roots i false) same ∙ (step.moves.root
-            ∙ (ap is_some (sym at_k) ∙ ap (λ i. is_some (guest_at (set places k now) i)) (sym same)))
+            ∙ (ap is_some (sym at_k) ∙ ap (λ i. is_some (guest_at (set places k now) i))
+            (sym same)))
         | inr other ↦ step.moves.roots j other ∙ (holdings.parted.roots j
             ∙ ap is_some (sym (at_other j other)))
       ];
@@ -215,7 +217,8 @@ module _ (old new : List ℕ) (pool pool' : Resources) (places : Places) (k : �
           at_other j other ∙ is,
           record {
             bytes = same;
-            machine = ap (λ m. record (lone_of g old) { memory = m }) (memory_same old new (held_of g) same);
+            machine = ap (λ m. record (lone_of g old) { memory = m })
+                (memory_same old new (held_of g) same);
             walks = λ page. held_now.order.led page ∙ sym (held.order.led page);
           },
         )

@@ -233,10 +233,12 @@ module _ (g : Held) (plan : Plan) (bytes : List ℕ) (same : plan.regions ≡ g.
   put_same memory width at value good s =
       ap (λ (p : Place). put_place (memory_of memory g) p width value) (seen_at width at s)
       ∙ ap (λ (bs : List ℕ). set (memory_of memory g) s.region bs)
-      (put_word_is width (get_or (memory_of memory g) s.region []) (4096 * s.index + s.offset) value)
+      (put_word_is width (get_or (memory_of memory g) s.region []) (4096 * s.index + s.offset)
+      value)
       ∙ sym (put_there g s.region s.index s.frame s.under memory good.held.memory s.offset
       (little_bytes width value) (fits_piece width value s))
-      ∙ ap (λ (bs : List ℕ). memory_of bs g) (sym (put_word_is width memory (4096 * s.frame + s.offset)
+      ∙ ap (λ (bs : List ℕ). memory_of bs g)
+      (sym (put_word_is width memory (4096 * s.frame + s.offset)
       value))
       ∙ ap (λ (a : ℕ). memory_of (put_word width memory a value) g) (sym s.place)
 

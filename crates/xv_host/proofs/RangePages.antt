@@ -14,7 +14,8 @@ use Rattle.xv_region.specs.declared.plan.Kind.{Kind}
 use Rattle.xv_region.specs.declared.plan.Kind.TheVariants.{Ram, Rom, Reserved, Alias, Device}
 use Rattle.xv_region.specs.declared.plan.Region.{Region}
 use Rattle.xv_region.specs.Cell.{bytes_at}
-use Rattle.xv_region.specs.Rules.{Accepted, is_good_host, is_sound, is_sound_kind, kind_fault, unit_of}
+use Rattle.xv_region.specs.Rules.{Accepted, is_good_host, is_sound, is_sound_kind, kind_fault}
+use Rattle.xv_region.specs.Rules.{unit_of}
 use Rattle.xv_region.specs.Rules.{unless, address_end, first_fault}
 use Rattle.xv_region.proofs.RuleLemmas.{all-at, both, kind-kept, sound-each, sound-length}
 use Rattle.xv_guest.specs.Frames.{kind_ranges, ranges_of, reserved_ranges}
@@ -58,7 +59,8 @@ all_whole (r ∷ rs) each =
     All-append HasPages (ranges_of r) (reserved_ranges rs) (each 0 r (omega arith))
     (all_whole rs (λ k d inside. each (suc k) d (omega arith)))
 
-pub ranges_whole : (regions : List Region) → Accepted regions → All HasPages (reserved_ranges regions)
+pub ranges_whole : (regions : List Region) → Accepted regions → All HasPages
+    (reserved_ranges regions)
 ranges_whole regions accepted = all_whole regions (λ k d within.
     let r = get_or regions k d in
     let sound = all-at is_sound regions k d (sound-each regions accepted.sound) within in

@@ -132,7 +132,8 @@ under_range bytes (x ∷ xs) zero frame inside is =
 under_range bytes (x ∷ xs) (suc index) frame inside is =
     let first = hits-first x xs in
     let size = length-range bytes (4096 * x) 4096 (inside x (omega arith)) in
-    let past : 4096 * suc index ≡ length (range bytes (4096 * x) 4096) + 4096 * index = omega arith in
+    let past : 4096 * suc index ≡ length (range bytes (4096 * x) 4096) + 4096 * index = omega arith
+    in
     ap (λ (n : ℕ). take 4096 (drop n (range bytes (4096 * x) 4096 ++ bytes_under bytes xs))) past
     ∙ ap (λ (zs : List ℕ). take 4096 zs)
     (drop-append-add (range bytes (4096 * x) 4096) (bytes_under bytes xs) (4096 * index))

@@ -165,7 +165,8 @@ range_one frame host size pages =
     ]
 
 kind_ranges_are : (frame size : ℕ) (kind : Kind) → All HasPages (kind_ranges kind size)
-    → hits frame (kind_reserved kind (size / 4096)) ≡ sum_by (in_range frame) (kind_ranges kind size)
+    → hits frame (kind_reserved kind (size / 4096)) ≡ sum_by (in_range frame)
+    (kind_ranges kind size)
 kind_ranges_are frame size Ram whole = refl
 kind_ranges_are frame size Rom whole = refl
 kind_ranges_are frame size (Reserved host) whole =
@@ -223,11 +224,14 @@ range_amounts frame (place ∷ places) pages =
 in_area : (frame : ℕ) (range area : Span) → LiesIn range area → 0 < in_range frame range
     → (area.start ≤ 4096 * frame) × (4096 * frame < range_end area)
 in_area frame range area lies some =
-    let has : has_address (4096 * frame) range ≡ true = counted (has_address (4096 * frame) range) some in
-    let parts = and_parts (leb range.start (4096 * frame)) (ltb (4096 * frame) (range_end range)) has in
+    let has : has_address (4096 * frame) range ≡ true = counted (has_address (4096 * frame) range)
+    some in
+    let parts = and_parts (leb range.start (4096 * frame)) (ltb (4096 * frame) (range_end range))
+    has in
     let low = leb-true range.start (4096 * frame) parts.0 in
     let high = ltb-true (4096 * frame) (range_end range) parts.1 in
-    let outer = and_parts (leb area.start range.start) (leb (range_end range) (range_end area)) lies in
+    let outer = and_parts (leb area.start range.start) (leb (range_end range) (range_end area)) lies
+    in
     let first = leb-true area.start range.start outer.0 in
     let last = leb-true (range_end range) (range_end area) outer.1 in
     (omega arith, omega arith)
@@ -303,7 +307,8 @@ both_meet : (frame : ℕ) (a b : Span) → 0 < in_range frame a → 0 < in_range
 both_meet frame a b one two =
     let x = bounds_of frame a one in
     let y = bounds_of frame b two in
-    lt-ltb (max a.start b.start) (min (range_end a) (range_end b)) (omega (arith, x.0, x.1, y.0, y.1))
+    lt-ltb (max a.start b.start) (min (range_end a) (range_end b))
+    (omega (arith, x.0, x.1, y.0, y.1))
 
 neither : (a b : Bool) → (a || b) ≡ false → (a ≡ false) × (b ≡ false)
 neither true b is = cc
@@ -347,7 +352,8 @@ frame_fits frame (range ∷ ranges) area lie pages some =
       | inl has ↦
           (let at = bounds_of frame range has in
           let whole = all_first HasPages range ranges pages in
-          let outer = and_parts (leb area.start range.start) (leb (range_end range) (range_end area))
+          let outer = and_parts (leb area.start range.start)
+          (leb (range_end range) (range_end area))
           (all_first (λ r. LiesIn r area) range ranges lie) in
           let last = leb-true (range_end range) (range_end area) outer.1 in
           omega (arith, at.0, at.1, whole.start, whole.len))

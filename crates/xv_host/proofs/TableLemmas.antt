@@ -46,7 +46,8 @@ module _ {T : Type 0} where
       ∙ length-map places (value_at old)))) at
     where
       at : (i : ℕ) → i < length (values_at new places')
-          → get_or (values_at new places') i None ≡ get_or (set (values_at old places) key slot) i None
+          → get_or (values_at new places') i None ≡ get_or (set (values_at old places) key slot) i
+          None
       at i inside =
           let count = length-map places' (value_at new) in
           let mapped = place_value new places' i (omega arith) in
@@ -169,7 +170,8 @@ module _ {T : Type 0} where
             → get_or (set places key (Some at)) j None ≡ Some a → ⊥
         clash i j a same other one two =
             let named : Some at ≡ Some a =
-            sym here ∙ (ap (λ (k : ℕ). get_or (set places key (Some at)) k None) (sym same) ∙ one) in
+            sym here ∙ (ap (λ (k : ℕ). get_or (set places key (Some at)) k None) (sym same) ∙ one)
+            in
             let is : a ≡ at = cc in
             distinct j a (sym (there j other) ∙ two) is
 

@@ -1,6 +1,6 @@
 -- Who holds what of a host: its frames, root tables and reserved ranges are each one guest's or
--- nobody's. That two have one thing, or that two lists are one list taken together, is said by sums:
--- whatever the weights, one side weighs what the other does.
+-- nobody's. That two have one thing, or that two lists are one list taken together, is said by
+-- sums: whatever the weights, one side weighs what the other does.
 use Rattle.std.specs.Prelude.{◌≡◌, ◌≢◌, ℕ, ◌+◌, ◌*◌, ◌<◌, List, length, get_or, Option, Some}
 use Rattle.std.specs.Prelude.{sum_by, is_some, false}
 use Rattle.xv_base.specs.declared.keys.Span.{Span}
@@ -35,7 +35,8 @@ pub record IsParted (pool : Resources) (places : Places) : Type 0 where
   -- a root is out where its guest is
   pub roots : (k : ℕ) → get_or pool.roots k false ≡ is_some (guest_at places k)
   -- the ranges of all guests are those that are out
-  pub ranges : (weight : Span → ℕ) → amount_of (λ h. sum_by weight (reserved_ranges h.regions)) places
+  pub ranges : (weight : Span → ℕ) → amount_of (λ h. sum_by weight (reserved_ranges h.regions))
+      places
       ≡ sum_by weight pool.held
   pub sound : IsSound pool
 
@@ -61,8 +62,8 @@ OthersStay k old new before after =
     (j : ℕ) (g : Guest) → j ≢ k → guest_at before j ≡ Some g
     → (guest_at after j ≡ Some g) × StaysAs old new g
 
--- what a call does to the pool and to one place: what the place gives up the pool gets, and what the
--- place gets the pool gives up
+-- what a call does to the pool and to one place: what the place gives up the pool gets, and what
+-- the place gets the pool gives up
 pub record Moves (old new : Resources) (k : ℕ) (was now : Option Guest) : Type 0 where
   pub frames : (weight : ℕ → ℕ) → amount_at (λ h. sum_by weight h.frames) now
       + sum_by weight new.free ≡ amount_at (λ h. sum_by weight h.frames) was

@@ -3,7 +3,8 @@ use Rattle.std.specs.Prelude.{◌≡◌, ℕ, ◌+◌, ◌*◌, ◌<◌, ◌≤�
 use Rattle.xv_gstage.specs.Own.{frame_of}
 use Rattle.xv_guest.specs.Held.{Held, IsHeld, Within}
 
--- so many bytes, of which there are some, from a host address on stand in one frame under a region of the guest
+-- so many bytes, of which there are some, from a host address on stand in one frame under a region
+-- of the guest
 pub record StandsIn (g : Held) (width at : ℕ) : Type 0 where
   pub some : 0 < width
   pub region : ℕ

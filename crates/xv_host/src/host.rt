@@ -1,5 +1,6 @@
 //! The host: its live guests, and what each holds of host memory.
-ghost use Rattle.std.specs.Prelude.{◌≡◌, ◌≢◌, ℕ, None, Some, IfOk, IfErr, OnOk, OnErr, IsSome, IsTrue, Ok};
+ghost use Rattle.std.specs.Prelude.{◌≡◌, ◌≢◌, ℕ, None, Some, IfOk, IfErr, OnOk, OnErr, IsSome};
+ghost use Rattle.std.specs.Prelude.{IsTrue, Ok};
 ghost use Rattle.std.specs.Prelude.{replicate, slice_set, length};
 ghost use Rattle.std.specs.List.{All};
 ghost use Rattle.xv_csr.specs.Fields.{IsInstructionAddress};

@@ -1,5 +1,6 @@
 //! Values under keys, of which there are sixteen.
-ghost use Rattle.std.specs.Prelude.{◌≡◌, ◌<◌, ℕ, true, None, Some, IfOk, IfSome, get_or, IsSome, is_some, option_copied};
+ghost use Rattle.std.specs.Prelude.{◌≡◌, ◌<◌, ℕ, true, None, Some, IfOk, IfSome, get_or, IsSome};
+ghost use Rattle.std.specs.Prelude.{is_some, option_copied};
 ghost use Rattle.std.specs.Prelude.{replicate, slice_set};
 ghost use Rattle.std.specs.Borrow.{sem};
 ghost use Rattle.xv_host.specs.Places.{IsLeast};

@@ -1,5 +1,5 @@
--- What is left of an instruction carries where the next one stands, and what is raised is one of nine
--- exceptions.
+-- What is left of an instruction carries where the next one stands, and what is raised is one of
+-- nine exceptions.
 use Rattle.std.proofs.Common.{◌≡◌, ℕ, ◌%◌, ◌==◌, Bool, true, false, cond, Option, Some, None, refl}
 use Rattle.xv_isa.specs.declared.instruction.Insn.{Insn}
 use Rattle.xv_isa.specs.Effects as effects

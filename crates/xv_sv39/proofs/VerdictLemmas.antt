@@ -1,5 +1,6 @@
 -- The three ways of a verdict: Bare, no canonical address, and a walk.
-use Rattle.std.proofs.Common.{◌≡◌, ℕ, zero, suc, ◌≤◌, Bool, true, false, cond, List, [], length, Option}
+use Rattle.std.proofs.Common.{◌≡◌, ℕ, zero, suc, ◌≤◌, Bool, true, false, cond, List, [], length}
+use Rattle.std.proofs.Common.{Option}
 use Rattle.std.proofs.Common.{Some, None, Err, refl, ap, ◌∙◌, arith}
 use Rattle.xv_pte.specs.declared.access.Kind3.{Kind3}
 use Rattle.xv_pte.specs.declared.access.View.{View}

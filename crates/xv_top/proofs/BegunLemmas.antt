@@ -20,7 +20,8 @@ pub begun_time : (g : Guest) (clock : ℕ)
 begun_time g clock =
     ap (λ delta. (clock + delta) % 2 ^ 64)
     (delta_is (delta_of g.birth) (hcsrs_of_guest g (time_of g clock)).hvip)
-    ∙ (let e : (clock + (2 ^ 64 - g.birth) % 2 ^ 64) % 2 ^ 64 ≡ (clock + (2 ^ 64 - g.birth)) % 2 ^ 64
+    ∙ (let e : (clock + (2 ^ 64 - g.birth) % 2 ^ 64) % 2 ^ 64 ≡ (clock + (2 ^ 64 - g.birth)) % 2 ^
+    64
     = omega arith in e)
 
 guest_is : (delta hvip : ℕ) → IsForGuest (record (guest_hcsrs 0 0 delta) { hvip = hvip })

@@ -1,6 +1,7 @@
 -- A guest's memory behind its tables is the memory of its lone machine, so that both step alike.
 use Rattle.std.proofs.Common.{◌≡◌, inl, inr, ℕ, ◌+◌, ◌-◌, ◌≤◌, Bool, true, false, ◌&&◌, eqb}
-use Rattle.std.proofs.Common.{leb, ltb, ◌*◌, ◌/◌, ◌%◌, ◌<◌, cond, List, [], ◌∷◌, length, Some, None, option_map}
+use Rattle.std.proofs.Common.{leb, ltb, ◌*◌, ◌/◌, ◌%◌, ◌<◌, cond, List, [], ◌∷◌, length, Some, None}
+use Rattle.std.proofs.Common.{option_map}
 use Rattle.std.proofs.Common.{is_some, refl, sym, ap, ◌∙◌, arith}
 use Rattle.std.proofs.lemmas.Bool.{and_parts, leb-true, le-leb, lt-leb, lt-ltb, le-ltb, cases_lt}
 use Rattle.std.proofs.lemmas.Bool.Decides.{nat_tests}
@@ -175,7 +176,8 @@ led_spot : (g : Guest) (width gpa : ℕ) (first : List ℕ) → IsPlaced g first
 led_spot g width gpa first placed access =
     ap (λ o. option_map stage.spot_of (leaf_at gpa o)) (placed.behind.led (gpa / 4096))
     ∙ go (has_page g (gpa / 4096)) refl
-    ∙ ap (λ (b : Bool). option_map host_spot (cond b (Some (host_base + (gpa - g.plan.ram.base))) None))
+    ∙ ap (λ (b : Bool). option_map host_spot
+    (cond b (Some (host_base + (gpa - g.plan.ram.base))) None))
     (page_within g width gpa placed.laid.base placed.laid.whole access)
   where
     here : has_page g (gpa / 4096) ≡ true

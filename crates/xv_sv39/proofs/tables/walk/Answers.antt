@@ -21,7 +21,8 @@ entry_address-gpa-requires-clause-level g c =
     omega (arith, c.loop-level.invariant.way.count, c.loop-level-test.true)
 
 pub word-requires-clause-room : goal.word-requires-clause-room
-word-requires-clause-room g c = omega (arith, c.loop-level.invariant.way.count, c.loop-level-test.true)
+word-requires-clause-room g c = omega
+    (arith, c.loop-level.invariant.way.count, c.loop-level-test.true)
 
 pub returns-in_default-clause-end : goal.returns-in_default-clause-end
 returns-in_default-clause-end g c =
@@ -61,7 +62,8 @@ returns-in-Broken-clause-addresses g c =
     ∙ ap (λ p. p.addresses)
     (reads_kind (g.R.Words.table c.args.reader.now) c.args.va c.args.root c.loop-level.level
     c.loop-level.page c.entry_address-gpa.result (g.R.Words.addresses c.loop-level.reader)
-    c.loop-level-test.true c.entry_address-gpa.ensures.address c.loop-level.invariant.way c.in-Some.entry
+    c.loop-level-test.true c.entry_address-gpa.ensures.address c.loop-level.invariant.way
+    c.in-Some.entry
     Broken (c.in-Some.ensures.word
     ∙ ap (λ t. t c.entry_address-gpa.result) c.loop-level.invariant.table) c.in-Broken.ensures.kind)
 
@@ -84,7 +86,8 @@ returns-in-Leaf-clause-addresses g c =
     ∙ ap (λ p. p.addresses)
     (reads_kind (g.R.Words.table c.args.reader.now) c.args.va c.args.root c.loop-level.level
     c.loop-level.page c.entry_address-gpa.result (g.R.Words.addresses c.loop-level.reader)
-    c.loop-level-test.true c.entry_address-gpa.ensures.address c.loop-level.invariant.way c.in-Some.entry
+    c.loop-level-test.true c.entry_address-gpa.ensures.address c.loop-level.invariant.way
+    c.in-Some.entry
     Leaf (c.in-Some.ensures.word
     ∙ ap (λ t. t c.entry_address-gpa.result) c.loop-level.invariant.table) c.in-Leaf.ensures.kind)
 

@@ -10,5 +10,6 @@ pub returns-then-self-eq0-clause-verdict : goal.returns-then-self-eq0-clause-ver
 returns-then-self-eq0-clause-verdict g c =
     let r = c.args.self.now in
     let bytes = c.args.mem.now in
-    sym (bare_verdict (reader (bus_of r bytes) bytes) (view (state_of r bytes)) c.args.va c.args.kind
+    sym (bare_verdict (reader (bus_of r bytes) bytes) (view (state_of r bytes)) c.args.va
+    c.args.kind
     (ap (λ n. n == 0) c.if-self-eq0.true))

@@ -38,7 +38,12 @@ returns-clause-others c =
     let here : Host = record { pool = c.self.inside.pool; guests = c.self.inside.guests } in
     let end = admit_end old new here c.take.new.pool c.put-2.new.self c.args.plan key c.args.clock
     host c.in-Some.ensures.least
-    (record { area = c.args.machine.now.area; sound = c.requires.sound; faultless = c.requires.faultless })
+    (record {
+      area = c.args.machine.now.area;
+      sound = c.requires.sound;
+      faultless =
+          c.requires.faultless;
+    })
     c.in-Ok.guest c.take.new.self c.put.new.self c.in-Ok.ensures c.take.ensures.pool
     c.take.ensures.sound c.take.ensures.guest c.take.ensures.held c.take.ensures.outside
     c.put.ensures c.put-2.ensures.put in
@@ -52,7 +57,12 @@ returns-clause-hosted c =
     let here : Host = record { pool = c.self.inside.pool; guests = c.self.inside.guests } in
     (admit_end old new here c.take.new.pool c.put-2.new.self c.args.plan c.in-Some.key c.args.clock
     host c.in-Some.ensures.least
-    (record { area = c.args.machine.now.area; sound = c.requires.sound; faultless = c.requires.faultless })
+    (record {
+      area = c.args.machine.now.area;
+      sound = c.requires.sound;
+      faultless =
+          c.requires.faultless;
+    })
     c.in-Ok.guest c.take.new.self c.put.new.self c.in-Ok.ensures c.take.ensures.pool
     c.take.ensures.sound c.take.ensures.guest c.take.ensures.held c.take.ensures.outside
     c.put.ensures c.put-2.ensures.put).0

@@ -20,7 +20,8 @@ invariant_of-self g c =
 pub returns : goal.returns
 returns g c = record {
   put = rw (← c.self.view_is, ← c.key.view_is)
-      (put_values c.self.inside.values c.insert_reserved.new.self c.self.inside.places c.key.inside.0
+      (put_values c.self.inside.values c.insert_reserved.new.self c.self.inside.places
+      c.key.inside.0
       c.insert_reserved.result c.args.value c.self.invariant c.key.invariant
       (vacant_key c.self.inside.values c.self.inside.places c.key.inside.0 c.self.invariant
       c.key.invariant c.self.view_is (rw c.key.view_is c.requires.free))

@@ -61,7 +61,8 @@ loop-made-preserved g c =
     let step = c.lone_step.ensures in
     let r = regs_of before.hart in
     record {
-      turning = turning_goes_on guest c.time-time.result first r (regs_of after.hart) before.mem after.mem
+      turning = turning_goes_on guest c.time-time.result first r (regs_of after.hart) before.mem
+          after.mem
           c.lone_step.result step.stepped
           c.loop-made._made c.loop-made-test.true (trail_of before.hart) (trail_of after.hart)
           inv.turning step.trail c.in-Started.is;

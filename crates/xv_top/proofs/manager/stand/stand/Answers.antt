@@ -24,7 +24,8 @@ pub fill_tables-requires-clause-frames : goal.fill_tables-requires-clause-frames
 fill_tables-requires-clause-frames c =
     let g = c.args.guest.now in
     let frames = c.args.frames.now in
-    let taken = taken_is g frames c.need.result c.need.ensures c.requires.frames c.requires.enough in
+    let taken = taken_is g frames c.need.result c.need.ensures c.requires.frames c.requires.enough
+    in
     let size = length c.args.mem.now in
     over (λ rs fs. HasFrames size 0 rs fs) (plan_of g).regions c.set_only.new.self (frames_of g)
     (take c.need.result frames)
@@ -39,7 +40,8 @@ pub fill_tables-requires-clause-zeros : goal.fill_tables-requires-clause-zeros
 fill_tables-requires-clause-zeros c =
     let g = c.args.guest.now in
     let frames = c.args.frames.now in
-    let taken = taken_is g frames c.need.result c.need.ensures c.requires.frames c.requires.enough in
+    let taken = taken_is g frames c.need.result c.need.ensures c.requires.frames c.requires.enough
+    in
     let bytes = c.args.mem.now in
     over (λ rs fs. AreZero bytes (table_frames rs fs)) (plan_of g).regions c.set_only.new.self
     (frames_of g) (take c.need.result frames)
@@ -51,7 +53,8 @@ pub fill_tables-requires-clause-apart : goal.fill_tables-requires-clause-apart
 fill_tables-requires-clause-apart c =
     let g = c.args.guest.now in
     let frames = c.args.frames.now in
-    let taken = taken_is g frames c.need.result c.need.ensures c.requires.frames c.requires.enough in
+    let taken = taken_is g frames c.need.result c.need.ensures c.requires.frames c.requires.enough
+    in
     over (λ rs fs. AreApart 0 rs fs) (plan_of g).regions c.set_only.new.self (frames_of g)
     (take c.need.result frames)
     (sym (c.set_only.ensures.map ∙ ap (λ r. r ∷ []) c.region.ensures)) (sym taken) (apart g)
@@ -60,7 +63,8 @@ pub returns-clause-behind : goal.returns-clause-behind
 returns-clause-behind c =
     let g = c.args.guest.now in
     let frames = c.args.frames.now in
-    let taken = taken_is g frames c.need.result c.need.ensures c.requires.frames c.requires.enough in
+    let taken = taken_is g frames c.need.result c.need.ensures c.requires.frames c.requires.enough
+    in
     let regions = c.set_only.ensures.map ∙ ap (λ r. r ∷ []) c.region.ensures in
     let old = c.args.mem.now in
     let new = c.fill_tables.new.mem in
@@ -79,7 +83,8 @@ pub returns-clause-rest : goal.returns-clause-rest
 returns-clause-rest c =
     let g = c.args.guest.now in
     let frames = c.args.frames.now in
-    let taken = taken_is g frames c.need.result c.need.ensures c.requires.frames c.requires.enough in
+    let taken = taken_is g frames c.need.result c.need.ensures c.requires.frames c.requires.enough
+    in
     let regions = c.set_only.ensures.map ∙ ap (λ r. r ∷ []) c.region.ensures in
     let old = c.args.mem.now in
     let new = c.fill_tables.new.mem in
