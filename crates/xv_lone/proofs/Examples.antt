@@ -1,17 +1,19 @@
 -- Worked rows of the lone machine, computed by the checker: journals of a guest with 64 bytes of
 -- memory.
-use Rattle.std.proofs.Common.{Bool, true, false, ◌≡◌, ℕ, zero, suc, ◌+◌, ◌-◌, ◌/◌, ◌%◌, ◌^◌, ◌++◌}
-use Rattle.std.proofs.Common.{List, [], ◌∷◌, map, Option, Some, None, slice_get, slice_index, refl}
+use Rattle.std.proofs.Common.{Bool, true, false, ◌≡◌, ℕ, zero, suc, ◌+◌, ◌*◌, ◌-◌, ◌/◌, ◌%◌, ◌^◌}
+use Rattle.std.proofs.Common.{◌++◌, List, [], ◌∷◌, map, Option, Some, None}
+use Rattle.std.proofs.Common.{slice_get, slice_index, refl}
 use Rattle.xv_mem.specs.Bytes.{word_at, put, put_word}
 use Rattle.xv_isa.specs.Effects.{effect_of}
 use Rattle.xv_isa.specs.Operands.{decode_of}
 use Rattle.xv_isa.specs.Rows.{row_of, rows, form_of, operation_at}
-use Rattle.xv_csr.specs.Kept.{kept_stvec, kept_sie, kept_sstatus}
+use Rattle.xv_csr.specs.Kept.{kept_stvec, kept_sie, kept_satp, kept_sstatus}
 use Rattle.xv_csr.specs.Pending.{chosen_interrupt, pending, sip_of}
 use Rattle.xv_csr.specs.Reset.{reset_csrs}
 use Rattle.xv_csr.specs.Table.{csr_read, csr_written, register_of}
 use Rattle.xv_csr.specs.Trap.{trap_csrs, handler, return_csrs, returns_to_user}
-use Rattle.xv_pte.specs.Sv39.{verdict}
+use Rattle.xv_pte.specs.Entry.{kind_of}
+use Rattle.xv_pte.specs.Sv39.{path, verdict}
 use Rattle.xv_step.specs.Step.{step}
 use Rattle.xv_lone.specs.declared.vcpu.VcpuView.{VcpuView}
 use Rattle.xv_lone.specs.declared.vcpu.HartState.{HartState}
@@ -52,6 +54,13 @@ mixed = record {
       ∷ region_of 0x1000_0000 64 Ram
       ∷ region_of 0x100 8 (Device Finisher)
       ∷ [];
+  vcpus = vcpu_at flat_base ∷ [];
+}
+
+-- memory that can't be written, and a device
+led : Plan
+led = record {
+  regions = region_of flat_base 128 Rom ∷ region_of 0x1000_0000 64 (Device Finisher) ∷ [];
   vcpus = vcpu_at flat_base ∷ [];
 }
 
@@ -100,6 +109,17 @@ mixed_shows words ks = of_machine (vcpu_shows ks) (replay mixed (journal words (
 
 mixed_traps : List ℕ → List ℕ
 mixed_traps words = of_machine vcpu_trap (replay mixed (journal words (50 ∷ [])))
+
+-- the trap of `code`, at offset 56 of `led`, under Sv39: the root table is page 2^shift, and entry
+-- 3 of the table at the base is `three`; entry 2 leads the base's GiB to itself. The handler of
+-- traps, at offset 32, waits
+led_traps : (shift three : ℕ) → List ℕ → List ℕ
+led_traps shift three code =
+    of_machine vcpu_trap (replay led
+    (journal (0x00100293 ∷ ((63 - shift) * 2 ^ 20 + 0x29293) ∷ 0x00128293 ∷ 0x0180006f
+    ∷ 0x200000cf ∷ 0 ∷ three ∷ 0 ∷ 0x10500073
+    ∷ (shift * 2 ^ 20 + 0x29293) ∷ 0x00000317 ∷ 0xff830313 ∷ 0x10531073 ∷ 0x18029073 ∷ code)
+    (50 ∷ [])))
 
 bit : Bool → ℕ
 bit true = 1
@@ -228,6 +248,26 @@ table =
     ∷ (mixed_traps (handled 0x10002383), 5 ∷ (flat_base + 12) ∷ 0x100 ∷ [])
     ∷ (mixed_traps (handled 0x10702023), 7 ∷ (flat_base + 12) ∷ 0x100 ∷ [])
     ∷ (mixed_traps (handled 0x00000067), 1 ∷ 0 ∷ 0 ∷ [])
+    -- under Sv39, by a leaf with W and D: a store to memory that can't be written, and a load of a
+    -- device
+    ∷ (
+      led_traps 19 0x200000cf (0x00300393 ∷ 0x01e39393 ∷ 0x0073b023 ∷ []),
+      7 ∷ (flat_base + 64) ∷ 0xc000_0000 ∷ [],
+    )
+    ∷ (
+      led_traps 19 0xcf (0x00d00393 ∷ 0x01c39393 ∷ 0x0003b403 ∷ []),
+      5 ∷ (flat_base + 64) ∷ 0xd000_0000 ∷ [],
+    )
+    -- a root table in a device, and in a hole: each fetch faults, the handler's too
+    ∷ (led_traps 16 0 [], 1 ∷ (flat_base + 32) ∷ (flat_base + 32) ∷ [])
+    ∷ (led_traps 20 0 [], 1 ∷ (flat_base + 32) ∷ (flat_base + 32) ∷ [])
+    -- an entry of the root table that names that table: on the last level it is no leaf
+    ∷ (
+      led_traps 19 0x20000001
+          (0x00300393 ∷ 0x00939393 ∷ 0x00338393 ∷ 0x00939393 ∷ 0x00338393 ∷ 0x00c39393 ∷ 0x0073b023
+          ∷ []),
+      15 ∷ (flat_base + 80) ∷ 0xc060_3000 ∷ [],
+    )
     -- LR.D under the second address and SC.D under the first, and the other way round: each is a
     -- reservation of the one place, and what is stored is seen under both
     ∷ (
@@ -243,11 +283,11 @@ table =
     ∷ []
 
 the_rows : map (λ r. r.0) table ≡ map (λ r. r.1) table
-unfolding region_of vcpu_at plan mixed mixed_shows mixed_traps cell bytes_of memory_of journal
-    hart_number vcpu_shows vcpu_trap of_machine shows traps
-    bit end_number turn_shows end_shows pair pair_shows at_x5 handled table replay ending visited
+unfolding region_of vcpu_at plan mixed mixed_shows mixed_traps led led_traps path kind_of cell
+    bytes_of memory_of journal hart_number vcpu_shows vcpu_trap of_machine shows traps bit
+    end_number turn_shows end_shows pair pair_shows at_x5 handled table replay ending visited
     answered steps turn whole_turn iterate lone_step step word_at put put_word decode_of row_of rows
     form_of operation_at effect_of chosen_interrupt pending sip_of csr_read csr_written register_of
-    trap_csrs handler return_csrs returns_to_user kept_stvec kept_sie kept_sstatus
+    trap_csrs handler return_csrs returns_to_user kept_stvec kept_sie kept_satp kept_sstatus
     reset_csrs verdict
 the_rows = refl
