@@ -1,4 +1,4 @@
-# The loop of memory.s under Sv39, which leads each address to itself: code is executed and read, the ring,
+# The loop of ring.inc under Sv39, which leads each address to itself: code is executed and read, the ring,
 # which has a page of its own, is read and written. The tables are three pages between them.
         li      x1, 0x80001000              # the root: its entry 2 names the table at 0x80002000
         li      x2, 0x20000801
@@ -18,17 +18,4 @@
         csrw    satp, x1
         sfence.vma
         li      x6, 0x80004000
-        li      x5, 0
-1:      add     x7, x6, x5
-        ld      x8, 0(x7)
-        addi    x8, x8, 1
-        sd      x8, 0(x7)
-        lw      x9, 4(x7)
-        sh      x8, 6(x7)
-        lbu     x10, 2(x7)
-        sb      x10, 3(x7)
-        lhu     x11, 0(x7)
-        sw      x11, 4(x7)
-        addi    x5, x5, 8
-        andi    x5, x5, 0x7f8
-        j       1b
+        .include "ring.inc"
