@@ -1,5 +1,5 @@
 //! The regions of a guest that may stand together.
-ghost use Rattle.std.specs.Prelude.{◌≡◌, [], ◌∷◌, length, None, IsTrue, IfOk, IfErr, OnOk};
+ghost use Rattle.std.specs.Prelude.{◌≡◌, None, IsTrue, IfOk, IfErr, OnOk};
 ghost use Rattle.xv_region.specs.Cell.{cell};
 ghost use Rattle.xv_region.specs.Need.{need};
 ghost use Rattle.xv_region.specs.Rules.{Accepted, IsFault, are_sound, first_fault};
@@ -48,15 +48,6 @@ impl RegionMap {
         }
         let kept = Vec::from_slice(alloc, regions)?;
         Ok(RegionMap { regions: kept })
-    }
-
-    /// Puts another region, which may stand alone, in the place of the only one.
-    pub fn set_only(&mut self, region: Region)
-        requires one { length self.old ≡ 1 }
-        requires accepted { Accepted (region ∷ []) }
-        ensures map { self.new ≡ region ∷ [] }
-    {
-        self.regions[0] = region;
     }
 
     /// The regions, in their order.
