@@ -3,7 +3,9 @@ use Rattle.std.specs.Prelude.{ℕ, List, [], ◌∷◌, ◌++◌, length, Option
 use Rattle.xv_step.specs.Bus.{Spot}
 use Rattle.xv_region.specs.Plan.{Plan}
 use Rattle.xv_lone.specs.Memory.{Place, spot_at, store_place}
-use Rattle.xv_lone.specs.Machine.{Machine, new_machine, guest_time, kicked}
+use Rattle.xv_lone.specs.declared.vcpu.Ending.TheVariants.{Command}
+use Rattle.xv_lone.specs.Machine.{Machine, new_machine, guest_time, kicked, paused, resumed, halted}
+use Rattle.xv_lone.specs.Machine.{reset_at}
 use Rattle.xv_lone.specs.Turn.{turn}
 
 -- what changes a guest's machine
@@ -12,6 +14,12 @@ pub data Change : Type 0 where
   Load : (gpa : ℕ) (bytes : List ℕ) → Change
   -- the start of its first VCPU
   Kick : Change
+  Pause : Change
+  Resume : Change
+  -- reset values, at a clock
+  Reset : (clock : ℕ) → Change
+  -- the end by a command
+  Halt : Change
   -- a turn of a VCPU, at a clock
   Turn : (vcpu clock : ℕ) → Change
 
@@ -33,6 +41,10 @@ after_load plan gpa bytes m = stored_at bytes m (spot_at plan (length bytes) gpa
 abbrev pub after_change : Plan → Change → Machine → Machine
 after_change plan (Load gpa bytes) m = after_load plan gpa bytes m
 after_change plan Kick m = kicked m
+after_change plan Pause m = paused m
+after_change plan Resume m = resumed m
+after_change plan (Reset clock) m = reset_at plan clock m
+after_change plan Halt m = halted Command m
 after_change plan (Turn vcpu clock) m = turn plan vcpu (guest_time clock m) m
 
 -- ---- births: the machine begins with its birth, and so does the journal

@@ -4,7 +4,7 @@ use Rattle.std.specs.Prelude.{slice_get, slice_set}
 use Rattle.xv_lone.specs.declared.vcpu.VcpuView.{VcpuView}
 use Rattle.xv_lone.specs.declared.vcpu.Ending.{Ending}
 use Rattle.xv_lone.specs.declared.vcpu.GuestState.{GuestState}
-use Rattle.xv_lone.specs.declared.vcpu.GuestState.TheVariants.{Reset, Running, Halted}
+use Rattle.xv_lone.specs.declared.vcpu.GuestState.TheVariants.{Reset, Running, Paused, Halted}
 use Rattle.xv_region.specs.Plan.{Plan}
 use Rattle.xv_lone.specs.Memory.{Memory, zeros_of}
 use Rattle.xv_lone.specs.Vcpu.{reset_vcpu, kicked_vcpu}
@@ -53,8 +53,18 @@ on_vcpu h change m = on_vcpu_of h change m (slice_get m.vcpus h)
 abbrev pub kicked : Machine → Machine
 kicked m = record (on_vcpu 0 kicked_vcpu m) { state = Running }
 
+abbrev pub paused : Machine → Machine
+paused m = record m { state = Paused }
+
+abbrev pub resumed : Machine → Machine
+resumed m = record m { state = Running }
+
 abbrev pub halted : Ending → Machine → Machine
 halted ending m = record m { state = Halted ending }
+
+-- every VCPU has reset values, and the guest isn't started. Its birth is the clock; memory stays
+abbrev pub reset_at : Plan → (clock : ℕ) → Machine → Machine
+reset_at plan clock m = record m { vcpus = reset_vcpus plan; state = Reset; birth = clock }
 
 -- every VCPU has reset values, and the first one is started. Memory and birth stay
 abbrev pub rebooted : Plan → Machine → Machine

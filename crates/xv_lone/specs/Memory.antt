@@ -1,7 +1,7 @@
 -- A guest's memory: the bytes of each region of its plan, and what stands at an address.
 use Rattle.std.specs.Prelude.{ℕ, if◌then◌else◌, List, [], get_or, replicate, slice_set}
-use Rattle.std.specs.Prelude.{Option, Some, None}
-use Rattle.xv_mem.specs.Bytes.{word_at, put, put_word}
+use Rattle.std.specs.Prelude.{Option, Some, None, option_map}
+use Rattle.xv_mem.specs.Bytes.{range, word_at, put, put_word}
 use Rattle.xv_step.specs.Bus.{Spot}
 use Rattle.xv_region.specs.declared.cell.Cell.{Cell}
 use Rattle.xv_region.specs.declared.cell.Cell.TheVariants as cells
@@ -33,6 +33,15 @@ spot_of cells.Nothing = None
 -- the spot of so many bytes at a guest physical address, where they are memory
 abbrev pub spot_at : Plan → (width gpa : ℕ) → Option (Spot Place)
 spot_at plan width gpa = spot_of (cell plan.regions gpa width)
+
+-- so many bytes of memory at a spot
+abbrev pub bytes_of_spot : Memory → (len : ℕ) → Spot Place → List ℕ
+bytes_of_spot memory len spot =
+    range (get_or memory spot.place.region []) spot.place.offset len
+
+-- so many bytes from a guest physical address on, where they are memory
+abbrev pub peeked : Plan → Memory → (gpa len : ℕ) → Option (List ℕ)
+peeked plan memory gpa len = option_map (bytes_of_spot memory len) (spot_at plan len gpa)
 
 -- the little-endian number in so many bytes at a place
 abbrev pub load_place : Memory → Place → (width : ℕ) → ℕ

@@ -5,7 +5,7 @@
 //! A VCPU's step is that of `xv_step`'s hart over the cells of the guest's memory; what that hart
 //! asks for is answered here at once. An answer is about the whole machine. No device and no SBI
 //! call is built, so an access that memory doesn't serve is an access fault, and each call from S
-//! answers -2. Addresses aren't translated.
+//! answers -2.
 #![tactic(auto)]
 
 mod vcpu;
