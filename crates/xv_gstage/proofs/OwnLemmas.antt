@@ -66,7 +66,7 @@ frames-at (r ∷ rs) fs (suc n) d lt =
     (drop_drop (own_pages r) (pages_of (take n rs)) fs
     ∙ ap (λ (k : ℕ). drop k fs) sum)
 
-length_frames : (regions : List Region) (fs : List ℕ)
+pub length_frames : (regions : List Region) (fs : List ℕ)
     → length (region_frames regions fs) ≡ length regions
 unfolding region_frames
 length_frames [] fs = refl

@@ -49,7 +49,7 @@ pub zero_of : (n : ℕ) → (n == 0) ≡ true → n ≡ 0
 zero_of n is = grind (arith, nat_tests)
 
 -- bytes that lie in a region
-lies : (a n : ℕ) (r : Region) → holds (bytes_at a n) r ≡ true
+pub lies : (a n : ℕ) (r : Region) → holds (bytes_at a n) r ≡ true
     → (r.base ≤ a) × (a + n ≤ r.base + r.size)
 lies a n r is =
     let parts = both (leb r.base a) (leb (a + n) (r.base + r.size)) is in

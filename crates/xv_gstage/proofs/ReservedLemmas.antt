@@ -1,14 +1,14 @@
 -- Reserved frames lie in the area over which the regions were judged.
-use Rattle.std.proofs.Common.{◌≡◌, ℕ, zero, suc, ◌+◌, ◌*◌, ◌/◌, ◌%◌, ◌<◌, ◌≤◌, ◌==◌, ◌&&◌, leb}
+use Rattle.std.proofs.Common.{◌≡◌, ℕ, suc, ◌+◌, ◌*◌, ◌/◌, ◌%◌, ◌<◌, ◌≤◌, ◌==◌, leb}
 use Rattle.std.proofs.Common.{List}
-use Rattle.std.proofs.Common.{[], ◌∷◌, ◌++◌, length, get_or, take, Some, None, refl, sym, ap, ◌∙◌}
-use Rattle.std.proofs.Common.{subst, arith, inl, inr, true}
-use Rattle.std.specs.Prelude.{IsTrue, slice_get}
+use Rattle.std.proofs.Common.{[], ◌∷◌, length, get_or, take, None, refl, sym, ap}
+use Rattle.std.proofs.Common.{subst, arith, inl, inr}
+use Rattle.std.specs.Prelude.{IsTrue}
 use Rattle.std.specs.List.{Contains}
 use Rattle.std.proofs.lemmas.Bool.Decides.{nat_tests}
 use Rattle.std.proofs.lemmas.List.Elements.{Contains-append_cases}
 use Rattle.xv_base.specs.declared.keys.Span.{Span}
-use Rattle.xv_base.specs.Range.{lies_in, range_end}
+use Rattle.xv_base.specs.Range.{lies_in}
 use Rattle.xv_pool.specs.FrameList.{up_from}
 use Rattle.xv_region.specs.declared.plan.Kind.{Kind}
 use Rattle.xv_region.specs.declared.plan.Kind.TheVariants.{Ram, Rom, Reserved, Alias, Device}
@@ -16,11 +16,10 @@ use Rattle.xv_region.specs.declared.plan.Region.{Region}
 use Rattle.xv_region.specs.Cell.{bytes_at}
 use Rattle.xv_region.specs.Need.{is_mapped}
 use Rattle.xv_region.specs.Rules.{Accepted, are_sound, first_fault, is_good_host, kind_fault}
-use Rattle.xv_region.specs.Rules.{unless}
 use Rattle.xv_region.proofs.RuleLemmas.{both, kind-kept}
 use Rattle.xv_gstage.specs.Own.{kind_reserved, pages, reserved_frames}
 use Rattle.xv_gstage.proofs.CellsOf.{whole-at}
-use Rattle.xv_gstage.proofs.Lists.{IsAt, at-place}
+use Rattle.xv_gstage.proofs.Lists.{at-place}
 use Rattle.xv_gstage.proofs.OwnLemmas.{length-up, up-get}
 use Rattle.xv_gstage.proofs.OwnPages.{unless-kept, zero_of}
 use Rattle.std.proofs.lemmas.Option.{get_or_from_slice_get}

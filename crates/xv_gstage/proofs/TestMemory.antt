@@ -1,7 +1,7 @@
 -- The memory of the tests: frames of a pool from the 64th on, and a reserved area behind them.
-use Rattle.std.proofs.Common.{◌≡◌, ◌≢◌, ℕ, ◌+◌, ◌*◌, ◌/◌, ◌<◌, ◌≤◌, List, length, get_or, take}
+use Rattle.std.proofs.Common.{◌≡◌, ◌≢◌, ℕ, ◌+◌, ◌*◌, ◌<◌, ◌≤◌, List, length, get_or, take}
 use Rattle.std.proofs.Common.{None}
-use Rattle.std.proofs.Common.{refl, sym, ap, ◌∙◌, subst, arith, replicate, length-take}
+use Rattle.std.proofs.Common.{ap, ◌∙◌, arith, replicate, length-take}
 use Rattle.std.specs.Prelude.{IsTrue}
 use Rattle.std.specs.List.{AllPairs, Contains}
 use Rattle.std.proofs.lemmas.List.{get_or-take, length-replicate}
@@ -16,7 +16,7 @@ use Rattle.xv_region.specs.declared.plan.Region.{Region}
 use Rattle.xv_region.specs.Need.{need}
 use Rattle.xv_region.specs.Rules.{are_sound, first_fault}
 use Rattle.xv_gstage.specs.Memory.{AreApart, AreInside, AreZero, HasFrames, IsZero, IsZeroRoot}
-use Rattle.xv_gstage.proofs.Lists.{IsAt, at-place}
+use Rattle.xv_gstage.proofs.Lists.{at-place}
 use Rattle.xv_gstage.proofs.OwnLemmas.{length-up, up-get}
 use Rattle.xv_gstage.proofs.ReservedLemmas.{reserved-in}
 

@@ -13,6 +13,7 @@ pub use clear::unmap_all;
 pub use count::audit;
 pub use eager::map;
 pub use law::{pages_have_frames, reserved_frames_lie_in_the_area, tables_are_local};
+pub use own::frame_of;
 pub use tables::fill;
 
 #[cfg(test)]

@@ -34,8 +34,9 @@ pub(crate) fn own_of(map: &RegionMap, frames: &[u32], page: u64) -> Option<Mappi
     }
 }
 
-/// The frame under a page of region `number`, counted from its first page on.
-fn frame_of(regions: &[Region], frames: &[u32], number: u8, index: u64) -> Option<u64>
+/// The frame of host memory under a page of region `number`, by the page's index from the region's
+/// first one on; none past its last page, and under an alias, a device or no region at all.
+pub fn frame_of(regions: &[Region], frames: &[u32], number: u8, index: u64) -> Option<u64>
     requires room { own.pages_of regions.now ≤ length frames.now }
     ensures { result ≡ own.frame_of regions.now frames.now number index }
 {
