@@ -13,8 +13,10 @@ use Rattle.xv_region.specs.declared.plan.Kind.TheVariants.{Ram, Rom, Reserved, A
 use Rattle.xv_region.specs.declared.plan.Region.{Region}
 use Rattle.xv_region.specs.Cell.{bytes_at}
 use Rattle.xv_region.specs.Rules.{meets_host, meets_host_of}
-use Rattle.xv_gstage.specs.Own.{pages, kind_reserved, reserved_frames}
+use Rattle.xv_gstage.specs.Own.{pages, pages_of, kind_reserved, reserved_frames}
+use Rattle.xv_gstage.proofs.Room.{need-pages}
 use Rattle.xv_guest.specs.Frames.{hits, root_frames}
+use Rattle.xv_guest.specs.Held.{Held, HasMemory}
 use Rattle.xv_guest.proofs.FrameLemmas.{hit, hit_same, hit_other, hits-cons, hits-first, hits-later}
 use Rattle.xv_guest.proofs.FrameLemmas.{hits-append, hits-get_or, hits-up_from_below}
 use Rattle.xv_guest.proofs.FrameLemmas.{hits-up_from_above, hits-up_from_inside, hits-take-drop}
@@ -124,6 +126,13 @@ once-pairs frames once = λ i j d order within same.
     let two = two-hits frames i j d order within same in
     let one = once (get_or frames i d) in
     omega arith
+
+-- ---- a frame for each page
+
+pub has_enough : (bytes : List ℕ) (g : Held) → HasMemory bytes g
+    → pages_of g.regions ≤ length g.frames
+has_enough bytes g memory =
+    let pages = need-pages g.regions in let size = memory.size in omega arith
 
 -- ---- reserved frames
 

@@ -103,7 +103,7 @@ module _ (g : Held) (region index frame : ℕ)
         record {
           once = memory.once;
           inside = λ other some. let was = memory.inside other some in omega arith;
-          enough = memory.enough;
+          size = memory.size;
         }
 
     other_same : (other : ℕ) → 0 < holds other g → other ≢ frame

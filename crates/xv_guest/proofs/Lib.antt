@@ -10,5 +10,8 @@ pub mod TakeLemmas
 pub mod GiveLemmas
 pub mod OrderLemmas
 pub mod LawLemmas
+pub mod CellLemmas
+pub mod StoreLemmas
+pub mod DigestLemmas
 pub mod Examples
 pub mod TestPlan

@@ -56,7 +56,7 @@ module _ (old new : List ℕ) (g : Held) (same : Same old new g) where
     memory = record {
       once = held.memory.once;
       inside = λ frame some. let was = held.memory.inside frame some in omega arith;
-      enough = held.memory.enough;
+      size = held.memory.size;
     };
     order = order_same old new g ground_same held.order;
   }

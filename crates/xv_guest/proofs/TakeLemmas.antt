@@ -29,7 +29,7 @@ use Rattle.xv_guest.specs.Take.{MayTake, least_root}
 use Rattle.xv_guest.proofs.FrameLemmas.{hits-append, hits-take-drop}
 use Rattle.xv_guest.proofs.HeldLemmas.{hits-Contains, Contains-hits, up_from-bounds}
 use Rattle.xv_guest.proofs.HeldLemmas.{up_from-once, root-place, increasing-once}
-use Rattle.xv_guest.proofs.HeldLemmas.{take-hits, once-pairs, regions-apart}
+use Rattle.xv_guest.proofs.HeldLemmas.{take-hits, once-pairs, regions-apart, has_enough}
 use Rattle.xv_guest.proofs.ClearLemmas.{zero_inside, reserved-more}
 use Rattle.xv_guest.proofs.RangeLemmas.{host_apart}
 use Rattle.xv_guest.proofs.ZeroLemmas.{memory_zero}
@@ -88,10 +88,6 @@ reserved_once (r ∷ rs) accepted frame =
     (front_once (r ∷ rs) accepted frame r (length (r ∷ rs)) (omega arith))
 
 -- ---- what is taken
-
-pub need-pages : (rs : List Region) → pages_of rs ≤ need rs
-unfolding need
-need-pages rs = omega arith
 
 pub same_frame : (old new : List ℕ) (root : ℕ) (frames : List ℕ) (frame : ℕ)
     → SameOutside old new root frames → IsInside old frame → frame / 4 ≢ root
@@ -226,7 +222,7 @@ module _ (bytes : List ℕ) (pool : Resources) (regions : List Region) (sound : 
         inside = λ frame some.
             let was = zero_inside bytes frame (taken_zero frame some) in
             let whole = outside.whole in omega arith;
-        enough = let pages = need-pages regions in let count = taken_count in omega arith;
+        size = taken_count;
       }
 
       reserved_zero : (frame : ℕ) → 0 < hits frame (reserved_frames regions) → IsZero new frame
@@ -249,7 +245,7 @@ module _ (bytes : List ℕ) (pool : Resources) (regions : List Region) (sound : 
       taken_zeros same =
           let frames = take (need regions) pool.free in
           memory_zero new (taken_held pool regions) (sound-each regions accepted.sound)
-          taken_memory.enough
+          (has_enough new (taken_held pool regions) taken_memory)
           (λ frame some.
           let found = Contains-hits frame (page_frames regions frames) some in
           let split = hits-take-drop frame (pages_of regions) frames in

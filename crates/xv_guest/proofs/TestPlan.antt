@@ -1,7 +1,7 @@
--- The plan of the tests keeps the rules, and a guest of it may take of a host in which nobody has
+-- The plans of the tests keep the rules, and a guest of one may take of a host in which nobody has
 -- anything, and give it back.
-use Rattle.std.proofs.Common.{◌≡◌, ℕ, ◌+◌, ◌*◌, ◌<◌, ◌≤◌, List, [], length, replicate}
-use Rattle.std.proofs.Common.{None, Ok, IsTrue, refl, sym, subst, arith}
+use Rattle.std.proofs.Common.{◌≡◌, ℕ, ◌+◌, ◌*◌, ◌<◌, ◌≤◌, List, [], ◌∷◌, length, replicate}
+use Rattle.std.proofs.Common.{None, Ok, IsTrue, refl, sym, ap, ◌∙◌, subst, arith}
 use Rattle.std.specs.List.{All, sum_by}
 use Rattle.std.proofs.lemmas.List.Elements.{All-nil}
 use Rattle.xv_base.specs.declared.keys.Span.{Span}
@@ -9,6 +9,9 @@ use Rattle.xv_base.specs.Range.{LiesIn}
 use Rattle.xv_mem.proofs.Puts.{range-replicate}
 use Rattle.xv_pool.specs.FrameList.{up_from}
 use Rattle.xv_pool.specs.Resources.{Resources, fresh, tested}
+use Rattle.xv_region.specs.declared.plan.Kind.{Kind}
+use Rattle.xv_region.specs.declared.plan.Kind.TheVariants.{Ram, Rom, Alias}
+use Rattle.xv_region.specs.declared.plan.Region.{Region}
 use Rattle.xv_region.specs.Need.{need}
 use Rattle.xv_region.specs.Plan.{flat}
 use Rattle.xv_region.specs.Rules.{are_sound, first_fault, fault_from}
@@ -32,6 +35,46 @@ pub faultless : first_fault area (flat 2).regions ≡ None
 unfolding first_fault fault_from
 faultless = refl
 
+-- ---- RAM of two pages, a ROM of one, and an alias of the second page of RAM
+
+region : (name : List ℕ) (base size : ℕ) → Kind → Region
+region name base size kind = record { name = name; base = base; size = size; kind = kind }
+
+pub mixed : (name : List ℕ) → List Region
+mixed name =
+    region name 0x8000_0000 0x2000 Ram
+    ∷ region name 0x9000_0000 0x1000 Rom
+    ∷ region name 0xA000_0000 0x1000 (Alias 0x8000_1000)
+    ∷ []
+
+pub mixed_is : (name : List ℕ) (ram rom alias : Region)
+    → ram ≡ record { name = name; base = 0x8000_0000; size = 0x2000; kind = Ram }
+    → rom ≡ record { name = name; base = 0x9000_0000; size = 0x1000; kind = Rom }
+    → alias ≡ record { name = name; base = 0xA000_0000; size = 0x1000; kind = Alias 0x8000_1000 }
+    → mixed name ≡ ram ∷ rom ∷ alias ∷ []
+unfolding mixed region
+mixed_is name ram rom alias one two three =
+    sym (ap (λ (r : Region). r ∷ rom ∷ alias ∷ []) one
+    ∙ ap (λ (r : Region). region name 0x8000_0000 0x2000 Ram ∷ r ∷ alias ∷ []) two
+    ∙ ap (λ (r : Region). region name 0x8000_0000 0x2000 Ram
+    ∷ region name 0x9000_0000 0x1000 Rom ∷ r ∷ []) three)
+
+pub mixed_sound : (name : List ℕ) → IsTrue (are_sound (mixed name))
+unfolding are_sound mixed region
+mixed_sound name = refl
+
+pub mixed_faultless : (name : List ℕ) → first_fault area (mixed name) ≡ None
+unfolding first_fault fault_from mixed region
+mixed_faultless name = refl
+
+pub mixed_ranges : (name : List ℕ) → reserved_ranges (mixed name) ≡ []
+unfolding reserved_ranges mixed region
+mixed_ranges name = refl
+
+pub mixed_frames : (name : List ℕ) → reserved_frames (mixed name) ≡ []
+unfolding reserved_frames mixed region
+mixed_frames name = refl
+
 -- ---- frames 64 to 71, and no reserved area
 
 abbrev pub host : Resources
@@ -40,40 +83,41 @@ host = fresh 64 8 area
 abbrev pub bare : Guest
 bare = new_guest (flat 2) 0
 
-no_ranges : reserved_ranges (flat 2).regions ≡ []
+pub no_ranges : reserved_ranges (flat 2).regions ≡ []
 unfolding reserved_ranges
 no_ranges = refl
 
-no_frames : reserved_frames (flat 2).regions ≡ []
+pub no_frames : reserved_frames (flat 2).regions ≡ []
 unfolding reserved_frames
 no_frames = refl
 
 zero_at : (frames frame : ℕ) → frame < frames → IsZero (replicate (4096 * frames) 0) frame
 zero_at frames frame low = range-replicate (4096 * frames) (4096 * frame) 4096 (omega arith)
 
-pub may_take : (frames n : ℕ) → 72 ≤ frames → Ok tt ≡ tested host n []
-    → n ≡ need (flat 2).regions
-    → MayTake (replicate (4096 * frames) 0) host (flat 2).regions
-may_take frames n enough passes is = record {
-  tested =
-      let P : List Span → Type 0 =
-      λ ranges. tested host (need (flat 2).regions) ranges ≡ Ok tt in
-      subst P (sym no_ranges)
-      (subst (λ (m : ℕ). tested host m [] ≡ Ok tt) is (sym passes));
-  room =
-      let P : List Span → Type 0 = λ ranges. length host.held + length ranges ≤ 512 in
-      subst P (sym no_ranges) (omega arith);
-  area =
-      let P : List Span → Type 0 = λ ranges. All (λ range. LiesIn range area) ranges in
-      subst P (sym no_ranges) (All-nil _);
-  root = λ frame is_root. zero_at frames frame (omega arith);
-  free = λ frame some.
-      let bounds = up_from-bounds frame 64 8 some in
-      (bounds.0, zero_at frames frame (omega arith));
-  reserved = λ frame some.
-      let P : List ℕ → Type 0 = λ xs. 0 < hits frame xs in
-      absurd (let none = subst P no_frames some in omega arith);
-}
+-- regions of which none is reserved
+module _ (regions : List Region) (ranges_none : reserved_ranges regions ≡ [])
+    (frames_none : reserved_frames regions ≡ []) where
+  pub may_take : (frames n : ℕ) → 72 ≤ frames → Ok tt ≡ tested host n [] → n ≡ need regions
+      → MayTake (replicate (4096 * frames) 0) host regions
+  may_take frames n enough passes is = record {
+    tested =
+        let P : List Span → Type 0 = λ ranges. tested host (need regions) ranges ≡ Ok tt in
+        subst P (sym ranges_none)
+        (subst (λ (m : ℕ). tested host m [] ≡ Ok tt) is (sym passes));
+    room =
+        let P : List Span → Type 0 = λ ranges. length host.held + length ranges ≤ 512 in
+        subst P (sym ranges_none) (omega arith);
+    area =
+        let P : List Span → Type 0 = λ ranges. All (λ range. LiesIn range area) ranges in
+        subst P (sym ranges_none) (All-nil _);
+    root = λ frame is_root. zero_at frames frame (omega arith);
+    free = λ frame some.
+        let bounds = up_from-bounds frame 64 8 some in
+        (bounds.0, zero_at frames frame (omega arith));
+    reserved = λ frame some.
+        let P : List ℕ → Type 0 = λ xs. 0 < hits frame xs in
+        absurd (let none = subst P frames_none some in omega arith);
+  }
 
 pub may_give : (bytes : List ℕ) → IsHeld bytes (held_of (taken_guest host bare))
     → MayGive bytes (pool_after (flat 2).regions host) (taken_guest host bare)

@@ -10,7 +10,6 @@ use Rattle.xv_guest.specs.Guest.{IsView}
 
 pub reset_view : (start : ℕ) → IsInstructionAddress start → IsView (reset_vcpu start)
 reset_view start aligned = record {
-  zero_register = refl;
   pc = aligned;
   csrs = reset_csrs_kept;
 }

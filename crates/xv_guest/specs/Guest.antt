@@ -1,5 +1,5 @@
 -- A guest over host memory, as contracts see it, and the lone machine that it is.
-use Rattle.std.specs.Prelude.{◌≡◌, ℕ, List, [], Option, Some, None, get_or}
+use Rattle.std.specs.Prelude.{◌≡◌, ℕ, List, [], Option, Some, None}
 use Rattle.xv_csr.specs.Fields.{IsInstructionAddress}
 use Rattle.xv_csr.specs.Kept.{IsKept}
 use Rattle.xv_region.specs.Plan.{Plan}
@@ -20,10 +20,8 @@ pub record Guest : Type 0 where
   pub state : GuestState
   pub birth : ℕ
 
--- a VCPU between two turns: x0 is 0, the pc is an instruction's address, and the CSRs hold what
--- writes keep
+-- a VCPU between two turns: the pc is an instruction's address, and the CSRs hold what writes keep
 pub record IsView (v : VcpuView) : Type 0 where
-  pub zero_register : get_or v.x 0 0 ≡ 0
   pub pc : IsInstructionAddress v.pc
   pub csrs : IsKept v.csrs
 
@@ -47,6 +45,10 @@ lone_of g bytes = record {
   state = g.state;
   birth = g.birth;
 }
+
+-- the guest with the VCPUs, the state and the birth of this lone machine
+abbrev pub with_machine : Guest → Machine → Guest
+with_machine g m = record g { vcpus = m.vcpus; state = m.state; birth = m.birth }
 
 -- a guest at its make: reset values, and nothing held
 abbrev pub new_guest : Plan → (key : ℕ) → Guest

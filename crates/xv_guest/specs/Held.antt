@@ -1,9 +1,10 @@
 -- What a guest holds of a host, and its memory there.
-use Rattle.std.specs.Prelude.{ℕ, ◌≡◌, ◌+◌, ◌<◌, ◌≤◌, List, map, length}
+use Rattle.std.specs.Prelude.{ℕ, ◌≡◌, ◌+◌, ◌<◌, ◌≤◌, List, [], map, length, get_or}
 use Rattle.xv_pte.specs.GStage.{frame_bytes, led}
 use Rattle.xv_region.specs.declared.plan.Region.{Region}
+use Rattle.xv_region.specs.Need.{need}
 use Rattle.xv_lone.specs.Memory.{Memory, zeros_of}
-use Rattle.xv_gstage.specs.Own.{own, pages_of, region_frames, reserved_frames}
+use Rattle.xv_gstage.specs.Own.{own, region_frames, reserved_frames}
 use Rattle.xv_gstage.specs.Tidy.{IsTidy}
 use Rattle.xv_guest.specs.Frames.{hits, root_frames, bytes_under, IsInside}
 
@@ -23,15 +24,19 @@ holds frame g =
 unfoldable pub memory_of : List ℕ → Held → Memory
 memory_of bytes g = map (bytes_under bytes) (region_frames g.regions g.frames)
 
+-- the bytes of one of its regions
+abbrev pub region_bytes : List ℕ → Held → (region : ℕ) → List ℕ
+region_bytes bytes g region = get_or (memory_of bytes g) region []
+
 -- and that of a guest at its birth
 abbrev pub zero_memory : List Region → Memory
 zero_memory regions = map zeros_of regions
 
--- no frame is held twice, each lies in the memory, and there is one for each page
+-- no frame is held twice, each lies in the memory, and there are as many as the regions need
 pub record HasMemory (bytes : List ℕ) (g : Held) : Type 0 where
   pub once : (frame : ℕ) → holds frame g ≤ 1
   pub inside : (frame : ℕ) → 0 < holds frame g → IsInside bytes frame
-  pub enough : pages_of g.regions ≤ length g.frames
+  pub size : length g.frames ≡ need g.regions
 
 -- its tables are in order: every page is led to its own frame, and nothing else anywhere
 pub record HasOrder (bytes : List ℕ) (g : Held) : Type 0 where

@@ -111,7 +111,8 @@ impl Guest {
 
     /// The plan of the guest.
     pub fn plan(&self) -> &Plan
-        ensures { result.now ≡ self.now.plan }
+        ensures plan { result.now ≡ self.now.plan }
+        ensures vcpus { length self.now.vcpus ≡ length self.now.plan.vcpus }
     {
         &self.plan
     }

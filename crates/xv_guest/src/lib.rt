@@ -1,7 +1,9 @@
 //! One guest: what it holds of a host, and the lone machine that it is over the host's bytes.
 #![tactic(auto)]
 
+mod cells;
 mod clear;
+mod digest;
 mod give;
 mod guest;
 mod law;

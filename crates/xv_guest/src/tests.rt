@@ -1,10 +1,15 @@
-ghost use Rattle.std.specs.Prelude.{◌≡◌, ◌≤◌, IfOk};
+ghost use Rattle.std.specs.Prelude.{◌≡◌, ◌≤◌, [], None, IfOk, IsTrue};
 ghost use Rattle.xv_region.specs.Plan.{flat};
+ghost use Rattle.xv_region.specs.Rules.{are_sound, first_fault};
+ghost use Rattle.xv_gstage.specs.Own.{reserved_frames};
+ghost use Rattle.xv_guest.specs.Frames.{reserved_ranges};
+ghost use Rattle.xv_guest.specs.Guest.{held_of};
+ghost use Rattle.xv_guest.specs.Held.{IsHeld};
 
 use super::*;
 use std::alloc::Global;
 use std::test::Fail;
-use xv_base::{GuestKey, NoMemory, Span, VcpuNo, dev_name_of};
+use xv_base::{DevName, GuestKey, NoMemory, Span, VcpuNo, dev_name_of};
 use xv_mem::HostMem;
 use xv_pool::Pool;
 use xv_region::{Kind, Plan, Region, VcpuPlan};
@@ -83,5 +88,86 @@ fn taken_and_given_back(alloc: Global, frames: u32) -> Result<(u8, u64, u64), No
 #[test]
 fn a_guest_takes_and_gives_back(rt: HostRuntime) -> Result<(), Fail> {
     assert_eq!(rt; taken_and_given_back(rt.alloc(), 72)?, (0, 4, 8));
+    Ok(())
+}
+
+/// A digest; which stores were taken: over the end of a page, into a ROM, and with one byte outside
+/// of the RAM; and what the alias shows then.
+type Outcome = ([u8; 32], [bool; 3], Option<[u8; 2]>);
+
+fn stored_and_shown(guest: &Guest, mem: &mut HostMem) -> Outcome
+    requires { IsHeld mem.old (held_of guest.now) }
+{
+    let digest = guest.digest(mem);
+    let over = guest.store(mem, 0x8000_0ffe, b"page");
+    let rom = guest.store(mem, 0x9000_0000, b"page");
+    let outside = guest.store(mem, 0x8000_1ffd, b"page");
+    let mut shown = [0; 2];
+    let alias = guest.peek(mem, 0xa000_0000, &mut shown);
+    let shown = if alias { Some(shown) } else { None };
+    (digest, [over, rom, outside], shown)
+}
+
+// The same of a guest of these regions, of which none is reserved, in a host where nobody has
+// anything.
+fn outcome_of(alloc: Global, regions: &[Region], frames: u32) -> Result<Outcome, NoMemory>
+    requires frames { 72 ≤ frames }
+    requires sound { IsTrue (are_sound regions.now) }
+    requires faultless { first_fault (record { start = 0x4_8000; len = 0 }) regions.now ≡ None }
+    requires ranges { reserved_ranges regions.now ≡ [] }
+    requires reserved { reserved_frames regions.now ≡ [] }
+{
+    let start = VcpuPlan {
+        start: 0x8000_0000,
+        priority: 3,
+    };
+    let plan = Plan {
+        regions: Vec::from_slice(alloc, regions)?,
+        vcpus: vec![in alloc; start]?,
+    };
+    let mut guest = Guest::make(alloc, plan, GuestKey(0), AREA)?;
+    let Ok(mut mem) = HostMem::zeroed(alloc, frames) else {
+        return Err(NoMemory);
+    };
+    let mut pool = Pool::new(alloc, 64, 8, AREA)?;
+    let Ok(()) = pool.test(guest.map().need(), &[]) else {
+        return Err(NoMemory);
+    };
+    guest.take(&mut mem, &mut pool);
+    Ok(stored_and_shown(&guest, &mut mem))
+}
+
+fn region(name: DevName, base: u64, size: u64, kind: Kind) -> Region
+    ensures { result ≡ record { name = name; base = base; size = size; kind = kind } }
+{
+    Region {
+        name,
+        base,
+        size,
+        kind,
+    }
+}
+
+// SHA-256 of 12,288 zeros
+const ZEROS: [u8; 32] = [
+    0xf3, 0xcc, 0x10, 0x31, 0x36, 0x42, 0x3a, 0x57, 0x97, 0x57, 0x50, 0x90, 0x7e, 0xbc, 0x1d, 0x36,
+    0x7e, 0x29, 0x85, 0xac, 0x63, 0x38, 0x97, 0x6d, 0x4d, 0x5a, 0x43, 0x9f, 0x50, 0x32, 0x3f, 0x4a,
+];
+
+#[test]
+fn a_guest_stores_shows_and_digests(rt: HostRuntime) -> Result<(), Fail> {
+    let Some(name) = dev_name_of(b"ram") else {
+        return Err(Fail::from("the name"));
+    };
+    let alias = Kind::Alias {
+        target: 0x8000_1000,
+    };
+    let regions = [
+        region(name, 0x8000_0000, 0x2000, Kind::Ram),
+        region(name, 0x9000_0000, 0x1000, Kind::Rom),
+        region(name, 0xa000_0000, 0x1000, alias),
+    ];
+    let outcome = outcome_of(rt.alloc(), &regions, 72)?;
+    assert_eq!(rt; outcome, (ZEROS, [true, true, false], Some(*b"ge")));
     Ok(())
 }

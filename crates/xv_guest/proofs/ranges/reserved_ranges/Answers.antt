@@ -1,4 +1,4 @@
-use Rattle.std.proofs.Common.{◌≡◌, ◌++◌, take, sym, ap, ◌∙◌}
+use Rattle.std.proofs.Common.{◌++◌, take, sym, ap, ◌∙◌}
 use Rattle.xv_guest.specs.Frames.{ranges_of, reserved_ranges}
 use Rattle.xv_guest.proofs.RangeLemmas.{ranges-more}
 use Rattle.xv_guest.proofs.ranges.reserved_ranges.Goals as goal

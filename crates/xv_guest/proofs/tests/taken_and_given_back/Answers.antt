@@ -7,7 +7,8 @@ use Rattle.xv_region.specs.Rules.{are_sound, first_fault}
 use Rattle.xv_guest.specs.Guest.{Guest, held_of, new_guest}
 use Rattle.xv_guest.specs.Held.{IsHeld}
 use Rattle.xv_guest.specs.Take.{MayTake, MayGive, pool_after, taken_guest}
-use Rattle.xv_guest.proofs.TestPlan.{area, host, bare, sound, faultless, may_take, may_give}
+use Rattle.xv_guest.proofs.TestPlan.{area, host, bare, sound, faultless, no_ranges, no_frames}
+use Rattle.xv_guest.proofs.TestPlan.{may_take, may_give}
 use Rattle.xv_guest.proofs.tests.taken_and_given_back.Goals as goal
 
 pub make-requires-clause-sound : goal.make-requires-clause-sound
@@ -37,7 +38,8 @@ take-requires-clause-may c =
     subst S (sym guest)
     (subst R (sym pool)
     (subst Q (sym mem)
-    (may_take c.args.frames c.need.result c.requires (subst P pool passes) count)))
+    (may_take (flat 2).regions no_ranges no_frames c.args.frames c.need.result c.requires
+    (subst P pool passes) count)))
 
 pub give-requires : goal.give-requires
 give-requires c =
