@@ -140,7 +140,7 @@ module _ (bytes : List ℕ) (pool : Resources) (places : Places)
 
   -- ---- a root that isn't out
 
-  free_root : (k : ℕ) → k < 16 → guest_at places k ≡ None → IsZeroRoot bytes k
+  pub free_root : (k : ℕ) → k < 16 → guest_at places k ≡ None → IsZeroRoot bytes k
   free_root k low none frame is =
       let parts = amounts frame places in
       let listed = holdings.parted.frames (hit frame) in

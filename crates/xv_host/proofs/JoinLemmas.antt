@@ -6,6 +6,7 @@ use Rattle.std.specs.List.{sum_by}
 use Rattle.std.proofs.lemmas.Bool.{cases_eq, eq-eqb, ne_eqb}
 use Rattle.xv_mem.specs.Bytes.{word_at, put, put_word}
 use Rattle.xv_mem.proofs.Words.{put_word_is, length-little_bytes}
+use Rattle.xv_pte.specs.declared.g_stage.Leaf.{Leaf}
 use Rattle.xv_pte.specs.GStage.{leaf_at, walked}
 use Rattle.xv_step.specs.Bus.{Spot}
 use Rattle.xv_step.proofs.BusLemmas.{AreJoined, Nothing}
@@ -21,17 +22,18 @@ use Rattle.xv_lone.specs.Memory.{Memory, Place, load_place, put_place, store_pla
 use Rattle.xv_lone.specs.Step.{lone_bus, same_place}
 use Rattle.xv_gstage.specs.Own.{frame_of, is_memory_page, region_frames}
 use Rattle.xv_gstage.proofs.OwnPages.{Owned, own-page, own-is, own-none, memory-cell}
-use Rattle.xv_guest.specs.Frames.{hits}
+use Rattle.xv_guest.specs.Frames.{hits, IsInside}
 use Rattle.xv_guest.specs.Held.{Held, IsHeld, Within, memory_of}
 use Rattle.byteorder.specs.Endian.{little_bytes}
 use Rattle.std.proofs.Math.Bool.{and-false}
+use Rattle.xv_guest.proofs.HeldLemmas.{has_enough}
 use Rattle.xv_guest.proofs.MemoryLemmas.{under-held}
 use Rattle.xv_guest.proofs.LawLemmas.{put_there, put_within, put_held}
 use Rattle.xv_host.specs.Join.{StandsIn, IsGoodFor}
 use Rattle.xv_host.specs.Spots.{place_of}
 use Rattle.xv_hart.specs.Stage.{spot_of, stage_bus}
 use Rattle.xv_host.proofs.CellWidths.{accepted_bounds, cell_first}
-use Rattle.xv_host.proofs.SpotLemmas.{IsIn, place_found, spot, word_under}
+use Rattle.xv_host.proofs.SpotLemmas.{IsIn, in_hit, place_found, spot, word_under}
 
 -- an aligned access ends in its page
 in_page : (width gpa : ℕ) → IsAccess width gpa → gpa % 4096 + width ≤ 4096
@@ -60,7 +62,7 @@ fits_piece : {g : Held} {at : ℕ} (width value : ℕ) (s : StandsIn g width at)
 fits_piece width value s =
     let size = length-little_bytes width value in omega (arith, s.fits)
 
-within_both : {g : Held} (first middle last : List ℕ) → Within g first middle
+pub within_both : {g : Held} (first middle last : List ℕ) → Within g first middle
     → Within g middle last → Within g first last
 within_both first middle last one two = record {
   whole = two.whole ∙ one.whole;
@@ -107,8 +109,9 @@ module _ (g : Held) (plan : Plan) (bytes : List ℕ) (same : plan.regions ≡ g.
   -- a page of memory
   module _ (width gpa : ℕ) (access : IsAccess width gpa)
       (memory : is_memory_page g.regions (gpa / 4096) ≡ true) where
-    abbrev owned : Owned g.regions accepted g.frames held.memory.enough (gpa / 4096)
-    owned = own-page g.regions accepted g.frames held.memory.enough (gpa / 4096) memory
+    abbrev owned : Owned g.regions accepted g.frames (has_enough bytes g held.memory) (gpa / 4096)
+    owned = own-page g.regions accepted g.frames (has_enough bytes g held.memory) (gpa / 4096)
+        memory
 
     leaf_is : walked bytes g.root gpa ≡ Some (record {
       host = 4096 * owned.mapping.frame + gpa % 4096;
@@ -116,7 +119,7 @@ module _ (g : Held) (plan : Plan) (bytes : List ℕ) (same : plan.regions ≡ g.
     })
     leaf_is =
         ap (leaf_at gpa) (held.order.led (gpa / 4096)
-        ∙ own-is g.regions accepted g.frames held.memory.enough (gpa / 4096) memory)
+        ∙ own-is g.regions accepted g.frames (has_enough bytes g held.memory) (gpa / 4096) memory)
 
     cell_is : cell g.regions gpa 1
         ≡ cells.Memory owned.region (owned.offset + gpa % 4096) owned.mapping.writable
@@ -211,6 +214,18 @@ module _ (g : Held) (plan : Plan) (bytes : List ℕ) (same : plan.regions ≡ g.
       by_page false outside =
           let led = ap (option_map spot_of) (unled gpa outside) in
           cc
+
+  -- the frame to which an address is led lies in the memory
+  pub leaf_inside : (gpa : ℕ) (leaf : Leaf) → walked bytes g.root gpa ≡ Some leaf
+      → IsInside bytes (leaf.host / 4096)
+  leaf_inside gpa leaf is =
+      let s = stands_found 1 gpa (spot_of leaf) (record { bytes = One; aligned = omega arith })
+      (ap (option_map spot_of) is) in
+      let some = in_hit (region_frames g.regions g.frames) s.region s.index s.frame
+      (in_lists s.region s.index s.frame s.under) in
+      let under = under-held s.frame g in
+      let inside = held.memory.inside s.frame (omega arith) in
+      omega (arith, s.place, s.fits, s.some)
 
   -- ---- what stands at a place
 

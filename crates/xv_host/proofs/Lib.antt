@@ -7,3 +7,15 @@ pub mod SpotLemmas
 pub mod AdmitLemmas
 pub mod ReleaseLemmas
 pub mod JoinLemmas
+pub mod ViewLemmas
+pub mod StageLemmas
+pub mod MonitorLemmas
+pub mod BegunLemmas
+pub mod SimulationLemmas
+pub mod TurnLemmas
+pub mod ChangeLemmas
+pub mod StandsLemmasFrames
+pub mod StandsLemmasGuest
+pub mod StandsLemmas
+pub mod AuditLemmas
+pub mod TestPlan

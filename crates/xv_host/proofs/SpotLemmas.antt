@@ -68,7 +68,7 @@ index_none (x ∷ xs) frame none =
 abbrev pub IsIn : List (List ℕ) → (region index frame : ℕ) → Type 0
 IsIn lists region index frame = frame_at (slice_get lists region) index ≡ Some frame
 
-in_hit : (lists : List (List ℕ)) (region index frame : ℕ) → IsIn lists region index frame
+pub in_hit : (lists : List (List ℕ)) (region index frame : ℕ) → IsIn lists region index frame
     → 0 < sum_by (hits frame) lists
 in_hit [] region index frame is = cc
 in_hit (xs ∷ lists) zero index frame is =
@@ -141,7 +141,7 @@ under_range bytes (x ∷ xs) (suc index) frame inside is =
     let later = hits-later other x xs in inside other (omega arith)) is
 
 -- the bytes of a region, by its number
-region_at : (bytes : List ℕ) (lists : List (List ℕ)) (region index frame : ℕ)
+pub region_at : (bytes : List ℕ) (lists : List (List ℕ)) (region index frame : ℕ)
     → ((other : ℕ) → 0 < sum_by (hits other) lists → IsInside bytes other)
     → IsIn lists region index frame
     → range (get_or (map (bytes_under bytes) lists) region []) (4096 * index) 4096

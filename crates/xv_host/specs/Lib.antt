@@ -1,7 +1,12 @@
 pub mod Places
 pub mod Holdings
 pub mod Host
+pub mod Change
+pub mod Lifecycle
 pub mod Table
 pub mod Lending
 pub mod Spots
 pub mod Join
+pub mod OnHart
+pub mod Monitor
+pub mod Stands

@@ -40,7 +40,7 @@ pub enum Admit {
 /// The live guests by their keys, and what the host has to hand out.
 #[derive(Drop)]
 pub struct Host {
-    guests: Table<Guest>,
+    pub(crate) guests: Table<Guest>,
     pool: Pool,
 }
 
@@ -57,6 +57,7 @@ impl Host {
     pub fn new(alloc: Global, machine: &Machine) -> Result<Host, NoMemory>
         requires fresh { IsFresh machine.now }
         ensures empty { IfOk result (λ host. host.guests ≡ replicate 16 None) }
+        ensures area { IfOk result (λ host. host.pool.area ≡ machine.now.area) }
         ensures hosted { IfOk result (λ host. IsHosted host machine.now.mem) }
     {
         let area = machine.area();
@@ -125,7 +126,10 @@ impl Host {
         ensures untouched { OnErr result (machine.new ≡ machine.old) }
 
         ensures hosted { IsHosted self.new machine.new.mem }
+        ensures area { self.new.pool.area ≡ self.old.pool.area }
+        ensures count { self.new.pool.count ≡ self.old.pool.count }
         ensures machine { machine.new ≡ record machine.old { mem = machine.new.mem } }
+        ensures size { length machine.new.mem ≡ length machine.old.mem }
     {
         self.test(alloc, &plan)?;
         let Some(key) = self.guests.least_key() else {
@@ -148,7 +152,10 @@ impl Host {
         ensures others { OthersStay key machine.old.mem machine.new.mem
             self.old.guests self.new.guests }
         ensures hosted { IsHosted self.new machine.new.mem }
+        ensures area { self.new.pool.area ≡ self.old.pool.area }
+        ensures count { self.new.pool.count ≡ self.old.pool.count }
         ensures machine { machine.new ≡ record machine.old { mem = machine.new.mem } }
+        ensures size { length machine.new.mem ≡ length machine.old.mem }
     {
         let mut guest = self.guests.take(key);
         guest.give(&mut machine.mem, &mut self.pool);

@@ -1,0 +1,193 @@
+//! The monitor: it answers what the hart leaves, so that the two together make a lone step.
+ghost use Rattle.std.specs.Prelude.{◌≡◌, ℕ, ◌+◌, ◌^◌, ◌<◌, ◌≤◌, List, length};
+ghost use Rattle.xv_isa.specs.Length.{next_pc};
+ghost use Rattle.xv_hart.specs.Hart.{regs_of, taken_by, trail_of, room_of};
+ghost use Rattle.xv_hart.specs.Step.{after_trap, IsWellFormed};
+ghost use Rattle.xv_guest.specs.Guest.{held_of};
+ghost use Rattle.xv_lone.specs.Step as lone;
+ghost use Rattle.xv_lone.specs.Trail.{most_tries};
+ghost use Rattle.xv_lone.specs.declared.vcpu.HartState.TheVariants as states;
+ghost use Rattle.xv_host.specs.Join.{IsGoodFor};
+ghost use Rattle.xv_host.specs.Monitor.{monitored, ecall_word};
+ghost use Rattle.xv_host.specs.OnHart.{after_of, on_hart_of, view_of, lines_of_vcpu};
+ghost use Rattle.xv_host.specs.OnHart.{with_lines_of, Grows, IsOnHart, MayRun, most_accesses};
+
+use std::sync::ledger::Ledger;
+use xv_base::VcpuNo;
+use xv_csr::Lines;
+use xv_csr::cause::{
+    ENVIRONMENT_CALL_FROM_VS, INSTRUCTION_ACCESS_FAULT, INSTRUCTION_GUEST_PAGE_FAULT,
+    LOAD_ACCESS_FAULT, LOAD_GUEST_PAGE_FAULT, STORE_ACCESS_FAULT, VIRTUAL_INSTRUCTION,
+};
+use xv_guest::{Guest, HartState, VcpuView};
+use xv_hart::{Exit, HTrap, Hart, Machine, Regs};
+use xv_isa::next_pc;
+use xv_mem::Steps;
+use xv_trap::enter;
+
+// the word of ECALL
+const ECALL: u32 = 0x0000_0073;
+
+// the answer of SBI to a call that it doesn't have
+const NOT_SUPPORTED: u64 = u64::MAX - 1;
+
+// the registers of an answer's error and value
+const A0: usize = 10;
+
+const A1: usize = 11;
+
+/// The interrupt lines of a VCPU at a guest time, as they are now. No device raises one yet.
+pub(crate) fn lines(_guest: &Guest, _vcpu: VcpuNo, view: &VcpuView, time: u64) -> Lines
+    ensures { result ≡ lines_of_vcpu _guest.now _vcpu time view.now }
+{
+    Lines {
+        timer: view.timer <= time,
+        external: false,
+    }
+}
+
+/// One lone step, at guest time `time`, of the VCPU that is on the hart, and its hart state after
+/// it. The interrupt lines are those of this moment.
+pub(crate) fn lone_step<L: Ledger>(
+    guest: &Guest,
+    vcpu: VcpuNo,
+    view: &VcpuView,
+    machine: &mut Machine,
+    time: u64,
+    steps: &mut Steps<L>,
+) -> HartState
+    requires may { MayRun guest.now vcpu view.now machine.old.mem }
+    requires on { IsOnHart guest.now time (regs_of machine.old.hart) }
+    requires formed { IsWellFormed (regs_of machine.old.hart) }
+    requires room { length (trail_of machine.old.hart) + most_tries ≤ room_of machine.old.hart }
+    requires few { taken_by machine.old.hart < 2 ^ 63 }
+
+    ensures stepped { after_of guest.now vcpu view.now
+        (regs_of machine.new.hart) machine.new.mem result
+        ≡ lone.stepped guest.now.plan vcpu time (on_hart_of guest.now vcpu view.now
+        (regs_of machine.old.hart) machine.old.mem states.Started)
+        (view_of view.now (regs_of machine.old.hart) states.Started) }
+    ensures on { IsOnHart guest.now time (regs_of machine.new.hart) }
+    ensures formed { IsWellFormed (regs_of machine.new.hart) }
+    ensures trail { Grows guest.now.key (regs_of machine.old.hart) (trail_of machine.old.hart)
+        (trail_of machine.new.hart) }
+    ensures taken { taken_by machine.new.hart + length (trail_of machine.old.hart)
+        ≡ taken_by machine.old.hart + length (trail_of machine.new.hart) }
+    ensures room { room_of machine.new.hart ≡ room_of machine.old.hart }
+    ensures good { IsGoodFor (held_of guest.now) machine.old.mem machine.new.mem }
+    ensures area { machine.new.area ≡ machine.old.area }
+    ensures counted { steps.new ≤ steps.old + most_accesses }
+{
+    set_lines(&mut machine.hart, lines(guest, vcpu, view, time));
+    let Exit::Trap(trap) = machine.hart.step(&mut machine.mem, steps) else {
+        return HartState::Started;
+    };
+    let mut regs = *machine.hart.regs();
+    let state = answer(guest, vcpu, view, &mut regs, time, &trap);
+    machine.hart.set_regs(&regs);
+    state
+}
+
+/// Answers a trap: a call, a wait, or an access to memory that isn't there.
+#[tactic(auto, using(crate::proofs::ViewLemmas::fault_back))]
+fn answer(
+    guest: &Guest,
+    vcpu: VcpuNo,
+    view: &VcpuView,
+    regs: &mut Regs,
+    time: u64,
+    trap: &HTrap,
+) -> HartState
+    requires number { vcpu < length guest.now.vcpus }
+    requires formed { IsWellFormed regs.old }
+    ensures monitored { (bytes : List ℕ) → after_of guest.now vcpu view.now regs.new bytes result
+        ≡ monitored guest.now.plan vcpu time
+        (on_hart_of guest.now vcpu view.now regs.old bytes states.Started)
+        (view_of view.now regs.old states.Started) trap.now }
+    ensures time { regs.new.time ≡ regs.old.time }
+    ensures h { regs.new.h ≡ regs.old.h }
+    ensures held { regs.new.held ≡ regs.old.held }
+    ensures formed { IsWellFormed regs.new }
+{
+    match trap.cause as u64 {
+        ENVIRONMENT_CALL_FROM_VS => call(guest, vcpu, view, regs),
+        VIRTUAL_INSTRUCTION => wait(guest, vcpu, view, regs, time, trap.word),
+        INSTRUCTION_GUEST_PAGE_FAULT => fault(regs, INSTRUCTION_ACCESS_FAULT, trap.tval),
+        LOAD_GUEST_PAGE_FAULT => fault(regs, LOAD_ACCESS_FAULT, trap.tval),
+        _ => fault(regs, STORE_ACCESS_FAULT, trap.tval),
+    }
+}
+
+// WFI goes on, and its VCPU waits where no interrupt is pending and enabled.
+fn wait(
+    guest: &Guest,
+    vcpu: VcpuNo,
+    view: &VcpuView,
+    regs: &mut Regs,
+    time: u64,
+    word: u32,
+) -> HartState
+    requires number { vcpu < length guest.now.vcpus }
+    requires formed { IsWellFormed regs.old }
+    ensures waits { (bytes : List ℕ) → after_of guest.now vcpu view.now regs.new bytes result
+        ≡ lone.waits guest.now.plan vcpu time
+        (on_hart_of guest.now vcpu view.now regs.old bytes states.Started)
+        (view_of view.now regs.old states.Started) (next_pc regs.old.pc word) }
+    ensures others { regs.new ≡ record regs.old { pc = regs.new.pc } }
+    ensures formed { IsWellFormed regs.new }
+{
+    regs.pc = next_pc(regs.pc, word);
+    if regs.csrs.pending(lines(guest, vcpu, view, time)) == 0 {
+        HartState::Waiting
+    } else {
+        HartState::Started
+    }
+}
+
+// The interrupt lines of the hart, which a step may find changed.
+fn set_lines(hart: &mut Hart, lines: Lines)
+    ensures regs { regs_of hart.new ≡ with_lines_of lines (regs_of hart.old) }
+    ensures trail { trail_of hart.new ≡ trail_of hart.old }
+    ensures taken { taken_by hart.new ≡ taken_by hart.old }
+    ensures room { room_of hart.new ≡ room_of hart.old }
+{
+    let mut h = hart.regs().h;
+    h.set_lines(hart.regs().csrs.ssip, lines.timer, lines.external);
+    if h.hvip != hart.regs().h.hvip {
+        let mut regs = *hart.regs();
+        regs.h = h;
+        hart.set_regs(&regs);
+    }
+}
+
+// A call that isn't supported, as each is so far.
+fn call(guest: &Guest, vcpu: VcpuNo, view: &VcpuView, regs: &mut Regs) -> HartState
+    requires number { vcpu < length guest.now.vcpus }
+    requires formed { IsWellFormed regs.old }
+    ensures calls { (t : ℕ) (bytes : List ℕ) →
+        after_of guest.now vcpu view.now regs.new bytes result
+        ≡ lone.calls guest.now.plan vcpu t
+        (on_hart_of guest.now vcpu view.now regs.old bytes states.Started)
+        (view_of view.now regs.old states.Started) (next_pc regs.old.pc ecall_word) }
+    ensures others { regs.new ≡ record regs.old { x = regs.new.x; pc = regs.new.pc } }
+    ensures formed { IsWellFormed regs.new }
+{
+    regs.x[A0] = NOT_SUPPORTED;
+    regs.x[A1] = 0;
+    regs.pc = next_pc(regs.pc, ECALL);
+    HartState::Started
+}
+
+// An access fault of the guest, at the instruction that made the access.
+#[tactic(auto, using(xv_hart::proofs::StepLemmas::entered))]
+fn fault(regs: &mut Regs, cause: u64, va: u64) -> HartState
+    requires formed { IsWellFormed regs.old }
+    ensures started { result ≡ HartState.Started }
+    ensures regs { regs.new ≡ after_trap cause va regs.old }
+    ensures formed { IsWellFormed regs.new }
+{
+    let pc = enter(&mut regs.csrs, regs.user, cause, va, regs.pc);
+    regs.pc = pc;
+    regs.user = false;
+    HartState::Started
+}

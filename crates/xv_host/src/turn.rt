@@ -1,0 +1,231 @@
+//! A turn: lone steps of one VCPU of a guest on the hart.
+ghost use Rattle.std.specs.Prelude.{◌≡◌, ◌+◌, ◌*◌, ◌^◌, ◌<◌, ◌≤◌, length, [], Some, true, IsSome};
+ghost use Rattle.std.specs.Prelude.{slice_get};
+ghost use Rattle.std.specs.List.{All};
+ghost use Rattle.xv_hart.specs.Hart.{regs_of, taken_by, trail_of};
+ghost use Rattle.xv_hart.specs.Machine.{IsFit};
+ghost use Rattle.xv_hart.specs.Step.{IsWellFormed};
+ghost use Rattle.xv_hcsr.specs.Stage.{root_of};
+ghost use Rattle.xv_region.specs.Rules.{Accepted};
+ghost use Rattle.xv_guest.specs.Guest.{IsView, held_of, lone_of, with_machine};
+ghost use Rattle.xv_guest.specs.Held.{IsHeld};
+ghost use Rattle.xv_lone.specs.Journal as journal;
+ghost use Rattle.xv_lone.specs.Ready as ready;
+ghost use Rattle.xv_lone.specs.Step.{On};
+ghost use Rattle.xv_lone.specs.Trail.{IsTrail, most_tries};
+ghost use Rattle.xv_lone.specs.Turn as turns;
+ghost use Rattle.xv_host.specs.Change.{IsChange, OfGuest, time_of, may_turn};
+ghost use Rattle.xv_host.specs.Host.{IsHosted};
+ghost use Rattle.xv_host.specs.Join.{IsGoodFor};
+ghost use Rattle.xv_host.specs.OnHart.{core_of, regs_of_vcpu, view_of, IsBetween, IsTurned};
+ghost use Rattle.xv_host.specs.OnHart.{MayRun, most_accesses};
+ghost use Rattle.xv_host.specs.Places.{guest_at};
+
+use crate::host::Host;
+use crate::monitor::{lines, lone_step};
+use std::sync::ledger::Ledger;
+use xv_base::{GuestKey, VcpuNo};
+use xv_guest::{Guest, HartState, VcpuView};
+use xv_hart::{Machine, Regs};
+use xv_hcsr::HCsrs;
+use xv_lone::TurnEnd;
+use xv_mem::Steps;
+
+/// The greatest number of lone steps in a turn.
+const TURN_STEPS: u32 = 1000;
+
+impl Host {
+    /// One turn of a VCPU of a live guest, which is ready. The guest's lone machine becomes the one
+    /// after its turn, and the answer is how that ended; nothing of another guest changes. The
+    /// trail has then a piece for each lone step, which shows what it began with, and nothing else.
+    pub fn turn<L: Ledger>(
+        &mut self,
+        machine: &mut Machine,
+        key: GuestKey,
+        vcpu: VcpuNo,
+        clock: u64,
+        steps: &mut Steps<L>,
+    ) -> TurnEnd
+        requires live { IsSome (guest_at self.old.guests key) }
+        requires ready { OfGuest self.old.guests key (λ g. may_turn g vcpu clock ≡ true) }
+        requires hosted { IsHosted self.old machine.old.mem }
+        requires fit { IsFit machine.old }
+        requires few { taken_by machine.old.hart < 2 ^ 62 }
+
+        ensures turned { IsChange (journal.Turn vcpu clock) key self.old self.new
+            machine.old.mem machine.new.mem }
+        ensures pool { self.new.pool ≡ self.old.pool }
+        ensures ending { OfGuest self.old.guests key (λ g. result
+            ≡ turns.ending g.plan vcpu (time_of g clock) (lone_of g machine.old.mem)) }
+        ensures trail { OfGuest self.old.guests key (λ g. IsTrail core_of
+            (turns.visited g.plan vcpu (time_of g clock) (lone_of g machine.old.mem))
+            (trail_of machine.new.hart)) }
+        ensures root { All (λ r. root_of r.h ≡ key) (trail_of machine.new.hart) }
+        ensures taken { taken_by machine.new.hart
+            ≡ taken_by machine.old.hart + length (trail_of machine.new.hart) }
+        ensures pieces { OfGuest self.old.guests key (λ g. IsBetween
+            (turns.steps g.plan vcpu (time_of g clock) (lone_of g machine.old.mem))
+            (length (trail_of machine.new.hart))) }
+        ensures few { length (trail_of machine.new.hart) ≤ most_tries * 1000 }
+        ensures counted { OfGuest self.old.guests key (λ g. steps.new ≤ steps.old + 1024
+            * turns.steps g.plan vcpu (time_of g clock) (lone_of g machine.old.mem)) }
+        ensures hosted { IsHosted self.new machine.new.mem }
+        ensures area { machine.new.area ≡ machine.old.area }
+        ensures size { length machine.new.mem ≡ length machine.old.mem }
+        ensures fit { IsFit machine.new }
+    {
+        let guest = self.guests.value_mut(key);
+        turn_of(guest, key, vcpu, machine, clock, steps)
+    }
+}
+
+/// One turn of a VCPU of a guest by itself.
+fn turn_of<L: Ledger>(
+    guest: &mut Guest,
+    key: GuestKey,
+    vcpu: VcpuNo,
+    machine: &mut Machine,
+    clock: u64,
+    steps: &mut Steps<L>,
+) -> TurnEnd
+    requires held { IsHeld machine.old.mem (held_of guest.old) }
+    requires accepted { Accepted guest.old.plan.regions }
+    requires key { guest.old.key ≡ key }
+    requires root { guest.old.root ≡ Some key }
+    requires ready { may_turn guest.old vcpu clock ≡ true }
+    requires fit { IsFit machine.old }
+    requires few { taken_by machine.old.hart < 2 ^ 62 }
+
+    ensures guest { guest.new ≡ with_machine guest.old
+        (turns.turn guest.old.plan vcpu (time_of guest.old clock)
+        (lone_of guest.old machine.old.mem)) }
+    ensures machine { lone_of guest.new machine.new.mem
+        ≡ turns.turn guest.old.plan vcpu (time_of guest.old clock)
+        (lone_of guest.old machine.old.mem) }
+    ensures ending { result ≡ turns.ending guest.old.plan vcpu (time_of guest.old clock)
+        (lone_of guest.old machine.old.mem) }
+    ensures trail { IsTrail core_of
+        (turns.visited guest.old.plan vcpu (time_of guest.old clock)
+        (lone_of guest.old machine.old.mem)) (trail_of machine.new.hart) }
+    ensures root { All (λ r. root_of r.h ≡ key) (trail_of machine.new.hart) }
+    ensures taken { taken_by machine.new.hart
+        ≡ taken_by machine.old.hart + length (trail_of machine.new.hart) }
+    ensures pieces { IsBetween (turns.steps guest.old.plan vcpu (time_of guest.old clock)
+        (lone_of guest.old machine.old.mem)) (length (trail_of machine.new.hart)) }
+    ensures few { length (trail_of machine.new.hart) ≤ most_tries * 1000 }
+    ensures counted { steps.new ≤ steps.old + most_accesses * length (trail_of machine.new.hart) }
+    ensures good { IsGoodFor (held_of guest.old) machine.old.mem machine.new.mem }
+    ensures area { machine.new.area ≡ machine.old.area }
+    ensures fit { IsFit machine.new }
+{
+    let view = ready_view(guest, vcpu, clock);
+    machine.hart.clear_trail();
+    machine
+        .hart
+        .set_regs(&first_regs(guest, key, vcpu, &view, clock));
+    let state = run(guest, vcpu, &view, machine, clock, steps);
+    guest.set_view(vcpu, &shown_view(&view, machine.hart.regs(), state));
+    end_of(state)
+}
+
+/// The VCPU of a guest that is ready.
+fn ready_view(guest: &Guest, vcpu: VcpuNo, clock: u64) -> VcpuView
+    requires { may_turn guest.now vcpu clock ≡ true }
+    ensures view { slice_get guest.now.vcpus vcpu ≡ Some result }
+    ensures kept { IsView result }
+    ensures may { ready.may_run result.hart (ready.has_interrupt vcpu (time_of guest.now clock)
+        (lone_of guest.now []) result) ≡ true }
+{
+    guest.view(vcpu)
+}
+
+/// Guest time at a clock.
+pub(crate) fn time_at(guest: &Guest, clock: u64) -> u64
+    ensures { result ≡ time_of guest.now clock }
+{
+    clock.wrapping_sub(guest.birth())
+}
+
+/// The registers that the hart has when a VCPU's turn begins.
+fn first_regs(guest: &Guest, key: GuestKey, vcpu: VcpuNo, view: &VcpuView, clock: u64) -> Regs
+    requires { guest.now.key ≡ key }
+    ensures { result ≡ regs_of_vcpu guest.now vcpu clock view.now }
+{
+    let lines = lines(guest, vcpu, view, time_at(guest, clock));
+    let root = key.0;
+    let mut h = HCsrs::for_guest(root, key, 0u64.wrapping_sub(guest.birth()));
+    h.set_lines(view.csrs.ssip, lines.timer, lines.external);
+    Regs {
+        x: view.x,
+        pc: view.pc,
+        user: view.user,
+        csrs: view.csrs,
+        h,
+        time: clock,
+        held: None,
+    }
+}
+
+/// The VCPU that the hart shows, in a hart state.
+fn shown_view(view: &VcpuView, regs: &Regs, hart: HartState) -> VcpuView
+    ensures { result ≡ view_of view.now regs.now hart }
+{
+    VcpuView {
+        x: regs.x,
+        pc: regs.pc,
+        user: regs.user,
+        csrs: regs.csrs,
+        timer: view.timer,
+        hart,
+    }
+}
+
+/// Lone steps, as many as a turn may have, or up to one that leaves the VCPU waiting or stopped.
+fn run<L: Ledger>(
+    guest: &Guest,
+    vcpu: VcpuNo,
+    view: &VcpuView,
+    machine: &mut Machine,
+    clock: u64,
+    steps: &mut Steps<L>,
+) -> HartState
+    requires may { MayRun guest.now vcpu view.now machine.old.mem }
+    requires ready { ready.may_run view.now.hart (ready.has_interrupt vcpu
+        (time_of guest.now clock) (lone_of guest.now []) view.now) ≡ true }
+    requires fit { IsFit machine.old }
+    requires few { taken_by machine.old.hart < 2 ^ 62 }
+    requires begun { regs_of machine.old.hart ≡ regs_of_vcpu guest.now vcpu clock view.now }
+    requires trail { trail_of machine.old.hart ≡ [] }
+
+    ensures turn { IsTurned guest.now vcpu view.now (time_of guest.now clock) machine.old.mem
+        (regs_of machine.new.hart) machine.new.mem (trail_of machine.new.hart) result }
+    ensures formed { IsWellFormed (regs_of machine.new.hart) }
+    ensures root { All (λ r. root_of r.h ≡ guest.now.key) (trail_of machine.new.hart) }
+    ensures taken { taken_by machine.new.hart
+        ≡ taken_by machine.old.hart + length (trail_of machine.new.hart) }
+    ensures few { length (trail_of machine.new.hart) ≤ most_tries * 1000 }
+    ensures counted { steps.new ≤ steps.old + most_accesses * length (trail_of machine.new.hart) }
+    ensures good { IsGoodFor (held_of guest.now) machine.old.mem machine.new.mem }
+    ensures area { machine.new.area ≡ machine.old.area }
+    ensures fit { IsFit machine.new }
+{
+    let time = time_at(guest, clock);
+    for _made in 0..TURN_STEPS {
+        match lone_step(guest, vcpu, view, machine, time, steps) {
+            HartState::Started => {}
+            stopped => return stopped,
+        }
+    }
+    HartState::Started
+}
+
+/// How a turn ends that leaves its VCPU so.
+fn end_of(state: HartState) -> TurnEnd
+    ensures { result ≡ turns.ends_as On state }
+{
+    match state {
+        HartState::Started => TurnEnd::Spent,
+        HartState::Waiting | HartState::Suspended => TurnEnd::Waits,
+        HartState::Stopped => TurnEnd::Stops,
+    }
+}
