@@ -1,5 +1,6 @@
 -- The script that a source has, the text that is read of it, and what stands at each status.
-use Rattle.std.proofs.Common.{◌≡◌, ℕ, ◌<◌, ◌≤◌, false, cond, leb, List, [], ◌∷◌, ◌++◌, length, take}
+use Rattle.std.proofs.Common.{◌≡◌, ℕ, ◌<◌, ◌≤◌, Bool, false, cond, leb, List, [], ◌∷◌, ◌++◌}
+use Rattle.std.proofs.Common.{length, take}
 use Rattle.std.proofs.Common.{map, get_or, Option, Some, None, Ok, Err, subst, refl, sym}
 use Rattle.std.proofs.Common.{ap}
 use Rattle.std.proofs.Common.{◌∙◌, arith, inl, inr, ◌⊎◌, IsTrue}
@@ -8,6 +9,7 @@ use Rattle.std.proofs.lemmas.Bool.{cases_lt}
 use Rattle.std.proofs.lemmas.List.{take_all, drop_all, length-take}
 use Rattle.xv_outside.specs.Fetch.{FileMap}
 use Rattle.xv_outside.specs.Outside.{left_after, taken_with, TookFront}
+use Rattle.xv_script.specs.declared.command.Command.{Command}
 use Rattle.xv_script.specs.declared.command.Line.{Line}
 use Rattle.xv_script.specs.declared.fault.ScriptKind.TheVariants as kind
 use Rattle.xv_script.specs.Script.{commands, commands_from}
@@ -15,18 +17,21 @@ use Rattle.xv_script.specs.Text.{lines}
 use Rattle.xv_hart.specs.declared.machine.Machine.{Machine}
 use Rattle.xv_hart.specs.Hart.{taken_by}
 use Rattle.xv_hart.specs.Machine.{area_of}
+use Rattle.xv_host.specs.Host.{Host, IsHosted}
+use Rattle.xv_host.specs.Stands.{Seen, Shows, Stands}
 use Rattle.xv_top.specs.declared.manager.Manager.{Manager}
 use Rattle.xv_top.specs.Boot.{IsTextOf, IsScriptOf, Holds, IsServed, IsRun, IsNoScript, IsRefused}
 use Rattle.xv_top.specs.Boot.{IsStoppedIn, IsStopped, IsCutIn, IsCutShort}
-use Rattle.xv_top.specs.Boot.{HoldsWorld, emptied, most_read}
-use Rattle.xv_top.specs.Commands.{answer, is_fetching}
+use Rattle.xv_top.specs.Boot.{emptied, most_read, seen_of_live}
+use Rattle.xv_top.specs.Commands.{answer}
 use Rattle.xv_top.specs.Files.{StandsFor}
 use Rattle.xv_top.specs.Layout.{memory_size}
-use Rattle.xv_top.specs.Manager.{world_of, guests_of}
+use Rattle.xv_top.specs.Manager.{world_of, IsSound}
 use Rattle.xv_top.specs.Run.{HaveRun, IsStop, IsCut}
 use Rattle.xv_top.specs.Transcript.{answers, fetches, world_after, work_after, transcript}
 use Rattle.xv_top.specs.Transcript.{transcript_of}
 use Rattle.xv_top.specs.World.{World, first_world}
+use Rattle.xv_top.proofs.HostLemmas.{shows_world}
 use Rattle.xv_top.proofs.JournalLemmas.{replayed}
 
 cases_le : (m n : ℕ) → (m ≤ n) ⊎ (n < m)
@@ -96,11 +101,6 @@ transcript_some : (mib : ℕ) (files : FileMap) (text : List ℕ) (ls : List Lin
 unfolding transcript transcript_of
 transcript_some mib files text ls some = ap (transcript_of mib files) some
 
--- host memory holds the world that the manager keeps
-pub holds_world : (m : Manager) (bytes : List ℕ) → HoldsWorld bytes (world_of m bytes).guests
-holds_world m bytes =
-    elim m.guest as (λ o. HoldsWorld bytes (guests_of o bytes)) [ None ↦ tt | Some g ↦ (refl, tt) ]
-
 pub one_word : {A : Type 0} (f : A → List ℕ) (words : List A) (word : A) → length words ≡ 1
     → word ≡ get_or words 0 word → map f words ≡ f word ∷ []
 one_word f [] word one here = cc
@@ -147,9 +147,10 @@ module _ (mib : ℕ) (left_old left_new taken_old taken_new : Option (List ℕ))
     };
   }
 
-  pub stopped_is : (given : Option FileMap) → IsStoppedIn mib given text taken_old taken_new machine
-      → IsStopped mib given left_old taken_old taken_new machine
-  stopped_is given stopped = record {
+  pub stopped_is : (may_stop : World → Command → Bool) (given : Option FileMap)
+      → IsStoppedIn may_stop mib given text taken_old taken_new machine
+      → IsStopped may_stop mib given left_old taken_old taken_new machine
+  stopped_is may_stop given stopped = record {
     script = script_of left_old text;
     told = script_told left_old text;
     stopped = record {
@@ -187,21 +188,27 @@ module _ (mib : ℕ) (left_old left_new taken_old taken_new : Option (List ℕ))
         kind = refusal.kind;
         grammar = same ∙ refusal.grammar;
         taken = refusal.taken;
+        zeros = refusal.zeros;
       })
 
 -- what the lines of a script do, by what the run of them ensures
 module _ (mib : ℕ) (given : Option FileMap) (text : List ℕ) (ls all : List Line) (w : World)
     (grammar : commands text ≡ Ok ls) (same : all ≡ ls) (start : w ≡ first_world mib)
     (taken_old taken_new : Option (List ℕ)) (before machine : Machine) (m : Manager)
-    (size : length machine.mem ≡ memory_size mib) (area : machine.area ≡ area_of mib 0) where
+    (size : length machine.mem ≡ memory_size mib) (area : machine.area ≡ area_of mib 0)
+    (sound : IsSound m machine)
+    (law : (host : Host) (bytes : List ℕ) (world : List Seen) → IsHosted host bytes
+    → Shows bytes host.guests world → Stands bytes world) where
   holds : (files : FileMap) (done : List Line)
       → world_of m machine.mem ≡ world_after files w done
       → work_after files w done ≤ taken_by machine.hart → Holds mib files done machine
   holds files done world work = record {
     size = size;
     area = area;
-    memory = subst (λ x. HoldsWorld machine.mem x.guests)
-        (world ∙ ap (λ x. world_after files x done) start) (holds_world m machine.mem);
+    stands = subst (λ (x : World). Stands machine.mem (map seen_of_live x.guests))
+        (world ∙ ap (λ (x : World). world_after files x done) start)
+        (law m.host machine.mem (map seen_of_live (world_of m machine.mem).guests) sound.hosted
+        (shows_world m.host.guests machine.mem sound.hosted.parted.root m.guest sound.guests));
     journals = replayed mib files done;
     stepped = omega (arith, work, ap (λ x. work_after files x done) start);
   }
@@ -226,9 +233,10 @@ module _ (mib : ℕ) (given : Option FileMap) (text : List ℕ) (ls all : List L
         };
   }
 
-  pub stop_is : IsStop given all w (world_of m machine.mem) taken_old taken_new
-      (taken_by machine.hart) → IsStoppedIn mib given text taken_old taken_new machine
-  stop_is stop = record {
+  pub stop_is : (may_stop : World → Command → Bool)
+      → IsStop may_stop given all w (world_of m machine.mem) taken_old taken_new
+      (taken_by machine.hart) → IsStoppedIn may_stop mib given text taken_old taken_new machine
+  stop_is may_stop stop = record {
     at = record {
       before = stop.before;
       line = stop.line;
@@ -238,9 +246,9 @@ module _ (mib : ℕ) (given : Option FileMap) (text : List ℕ) (ls all : List L
     stopped = λ files is.
         let ran = stop.ran files (from_first files stop.before is) in
         record {
-          fetching = subst
-              (λ x. IsTrue (is_fetching (world_after files x stop.before) stop.line.command))
-              start ran.fetching;
+          may = subst
+              (λ (x : World). IsTrue (may_stop (world_after files x stop.before) stop.line.command))
+              start ran.may;
           taken = ran.run.taken
               ∙ ap (taken_with taken_old) (ap (λ x. answers files x stop.before) start);
           holds = holds files stop.before ran.run.world ran.run.work;

@@ -1,16 +1,17 @@
 -- Lines one after another: what the first of them did, and one more.
 use Rattle.std.proofs.Common.{◌≡◌, ℕ, ◌+◌, ◌<◌, ◌≤◌, List, [], ◌∷◌, ◌++◌, length, get_or, take}
-use Rattle.std.proofs.Common.{drop, Option, true, subst, refl, sym, ap, ◌∙◌, arith}
+use Rattle.std.proofs.Common.{drop, Option, Bool, true, subst, refl, sym, ap, ◌∙◌, arith}
 use Rattle.std.proofs.lemmas.List.{drop_more, take_more, take-append-drop, append_assoc}
 use Rattle.std.proofs.lemmas.List.{append-nil}
 use Rattle.xv_outside.specs.Fetch.{FileMap}
 use Rattle.xv_outside.specs.Outside.{taken_with, TookFront}
 use Rattle.xv_outside.proofs.Told.{taken_with_both, taken_with_none}
+use Rattle.xv_script.specs.declared.command.Command.{Command}
 use Rattle.xv_script.specs.declared.command.Line.{Line}
 use Rattle.xv_top.specs.World.{World}
 use Rattle.xv_top.specs.Answer.{Answer}
-use Rattle.xv_top.specs.Commands.{answer, is_fetching}
-use Rattle.xv_top.specs.Run.{HaveRun, RanToFetch, RanToCut}
+use Rattle.xv_top.specs.Commands.{answer}
+use Rattle.xv_top.specs.Run.{HaveRun, RanToStop, RanToCut}
 use Rattle.xv_top.specs.Transcript.{answers, world_after, work_after}
 
 pub run_none : (files : FileMap) (first : World) (taken : Option (List ℕ))
@@ -117,11 +118,11 @@ module _ (files : FileMap) (ls : List Line) (made : ℕ) (more : made < length l
   }
 
   -- it stopped
-  pub run_stops : is_fetching now l.command ≡ true → after ≡ now → stepped_after ≡ stepped
-      → taken_new ≡ taken_now
-      → RanToFetch files (take made ls) l first after taken_old taken_new stepped_after
-  run_stops fetching world counted taken = record {
-    fetching = ap (λ w. is_fetching w l.command) (sym run.world) ∙ fetching;
+  pub run_stops : (may_stop : World → Command → Bool) → may_stop now l.command ≡ true
+      → after ≡ now → stepped_after ≡ stepped → taken_new ≡ taken_now
+      → RanToStop may_stop files (take made ls) l first after taken_old taken_new stepped_after
+  run_stops may_stop may world counted taken = record {
+    may = ap (λ (w : World). may_stop w l.command) (sym run.world) ∙ may;
     run = record {
       taken = taken ∙ run.taken;
       world = world ∙ run.world;

@@ -1,7 +1,7 @@
 -- Each live guest's machine is the replay of its own journal.
 use Rattle.std.proofs.Common.{◌≡◌, ℕ, zero, suc, Bool, true, false, cond, ltb, List, [], ◌∷◌, ◌++◌}
 use Rattle.std.proofs.Common.{map, length, Option, Some, None, is_some, slice_get, subst, refl, sym}
-use Rattle.std.proofs.Common.{ap, ◌∙◌, codes, arith, Result, Ok, Err}
+use Rattle.std.proofs.Common.{ap, ◌∙◌, codes, arith, sum_by, Result, Ok, Err}
 use Rattle.std.specs.List.{concat}
 use Rattle.std.specs.Str.{bytes_eq}
 use Rattle.std.proofs.lemmas.Bool.{cond_both, cond-true, cond-false, ltb-false}
@@ -15,10 +15,10 @@ use Rattle.xv_fdt.specs.Grammar.{tree}
 use Rattle.xv_fdt.specs.Tree.{Entry as Node}
 use Rattle.xv_region.specs.Need.{need}
 use Rattle.xv_region.specs.Plan.{Plan, flat}
-use Rattle.xv_step.specs.Bus.{Spot}
 use Rattle.xv_tree.specs.declared.fault.PlanFault.{PlanFault}
 use Rattle.xv_tree.specs.Plan as trees
-use Rattle.xv_lone.specs.Memory.{Place, spot_at}
+use Rattle.xv_gstage.specs.Audit.{mapped_pages}
+use Rattle.xv_lone.specs.Memory.{peeked, spot_at}
 use Rattle.xv_lone.specs.Machine.{Machine, new_machine}
 use Rattle.xv_lone.specs.Ready.{is_reset}
 use Rattle.xv_lone.specs.Journal.{Entry, Born, Changed, Change, Load, Kick, after_change}
@@ -28,15 +28,15 @@ use Rattle.xv_script.specs.declared.command.Command.TheVariants as command
 use Rattle.xv_script.specs.declared.command.Line.{Line}
 use Rattle.xv_top.specs.World.{LiveGuest, World, GuestEntry, RunSoFar, first_world, changed_guest}
 use Rattle.xv_top.specs.World.{change_entry, guest_turn, one_turn, pick, run_from, run_of}
-use Rattle.xv_top.specs.World.{guest_named, free}
+use Rattle.xv_top.specs.World.{guest_named, free, least_root}
 use Rattle.xv_top.specs.Answer.{Answer, refused, says, where_there, where_reset, with_file}
 use Rattle.xv_top.specs.Births.{admitted, where_alone, is_built, plan_answer, tree_answer}
 use Rattle.xv_top.specs.Births.{create_answer}
-use Rattle.xv_top.specs.Contents.{put_at, put_into, load_bytes, load_guest, peeked, mem_of}
+use Rattle.xv_top.specs.Contents.{put_into, load_bytes, load_guest, mem_of}
 use Rattle.xv_top.specs.Commands.{answer, regs_of_vcpu, run_answer, unbuilt}
 use Rattle.xv_top.specs.Files.{file_of, most_tree, most_image}
 use Rattle.xv_top.specs.Texts.{frames_text, regs_text, tree_text, plan_text, mem_text}
-use Rattle.xv_top.specs.Texts.{digest_text}
+use Rattle.xv_top.specs.Texts.{digest_text, audit_text}
 use Rattle.xv_top.specs.Transcript.{world_after}
 use Rattle.xv_top.specs.Journals.{journal_from, journal_of, entries_by, AreReplayed}
 
@@ -99,11 +99,11 @@ all_replayed name change es (g ∷ gs) h = (
 )
 
 -- a guest that is born where no other lives
-born_replayed : (name : List ℕ) (plan : Plan) (clock : ℕ) (es : List GuestEntry)
+born_replayed : (name : List ℕ) (root : ℕ) (plan : Plan) (clock : ℕ) (es : List GuestEntry)
     → AreReplayed (es ++ an_entry name (Born clock) ∷ [])
-    (record { name = name; plan = plan; machine = new_machine plan clock } ∷ [])
+    (record { name = name; root = root; plan = plan; machine = new_machine plan clock } ∷ [])
 unfolding replay
-born_replayed name plan clock es = (
+born_replayed name root plan clock es = (
   ap (replay_from plan None) (journal-push name es (an_entry name (Born clock))
       ∙ cond-true (bytes_eq name name) _ _ ((bytes_eq-Decides name name).1 refl)),
   tt,
@@ -159,8 +159,13 @@ module _ (es : List GuestEntry) (w : World) (h : AreReplayed es w.guests) where
     where
       made : (gs : List LiveGuest) → ltb 0 (length gs) ≡ false
           → AreReplayed (es ++ an_entry name (Born w.clock) ∷ [])
-          (gs ++ record { name = name; plan = plan; machine = new_machine plan w.clock } ∷ [])
-      made [] alone = born_replayed name plan w.clock es
+          (gs ++ record {
+            name = name;
+            root = least_root w;
+            plan = plan;
+            machine = new_machine plan w.clock;
+          } ∷ [])
+      made [] alone = born_replayed name (least_root w) plan w.clock es
       made (g ∷ gs) alone = absurd (omega (arith, ltb-false 0 (suc (length gs)) alone))
 
   alone_replayed : (name : List ℕ) (next : Answer)
@@ -216,11 +221,10 @@ module _ (es : List GuestEntry) (w : World) (h : AreReplayed es w.guests) where
 
   put_replayed : (name : List ℕ) (gpa : ℕ) (bytes text : List ℕ) (g : LiveGuest)
       → AnswerReplayed es (put_into w name gpa bytes text g)
-  put_replayed name gpa bytes text g = at_spot (spot_at g.plan (length bytes) gpa)
-    where
-      at_spot : (o : Option (Spot Place)) → AnswerReplayed es (put_at w name gpa bytes text o)
-      at_spot None = same_replayed (refused w (codes "outside")) refl refl
-      at_spot (Some spot) = all_replayed name (Load gpa bytes) es w.guests h
+  put_replayed name gpa bytes text g =
+      cond_both (is_some (spot_at g.plan (length bytes) gpa)) _ _ (AnswerReplayed es)
+      (λ _. all_replayed name (Load gpa bytes) es w.guests h)
+      (λ _. same_replayed (refused w (codes "outside")) refl refl)
 
   load_replayed : (files : FileMap) (name : List ℕ) (gpa : ℕ) (file : List ℕ)
       (o : Option LiveGuest) → AnswerReplayed es (load_guest files w name gpa file o)
@@ -268,7 +272,9 @@ module _ (es : List GuestEntry) (w : World) (h : AreReplayed es w.guests) where
   answer_replayed files (command.Digest name) =
       there_replayed _ (guest_named name w) (λ g. says_replayed (digest_text name (sha256 (concat
       g.machine.memory))))
-  answer_replayed files (command.Audit name) = same_replayed (unbuilt w) refl refl
+  answer_replayed files (command.Audit name) =
+      there_replayed _ (guest_named name w)
+      (λ g. says_replayed (audit_text name (sum_by mapped_pages g.plan.regions)))
   answer_replayed files command.List = same_replayed (unbuilt w) refl refl
   answer_replayed files (command.Input name port bytes) = same_replayed (unbuilt w) refl refl
   answer_replayed files (command.Dump name port) = same_replayed (unbuilt w) refl refl

@@ -1,15 +1,34 @@
--- The plans that are built may stand, and their memory has pages of the pool.
-use Rattle.std.proofs.Common.{◌≡◌, ℕ, ◌+◌, ◌*◌, ◌/◌, ◌%◌, ◌^◌, ◌≤◌, Bool, true, false, eqb, leb}
-use Rattle.std.proofs.Common.{ltb, ◌&&◌, IsTrue, refl, arith}
+-- The plans of flat guests and of trees keep the rules over the reserved area of the host.
+use Rattle.std.proofs.Common.{◌≡◌, ℕ, zero, suc, ◌+◌, ◌*◌, ◌%◌, ◌^◌, ◌≤◌, Bool, true, false}
+use Rattle.std.proofs.Common.{eqb, leb, ltb, IsTrue, List, [], ◌∷◌, take, Option, Some, None}
+use Rattle.std.proofs.Common.{Result}
+use Rattle.std.proofs.Common.{Ok, Err, refl}
+use Rattle.std.proofs.Common.{sym, ap, ◌∙◌, arith, codes, subst, position}
 use Rattle.std.proofs.lemmas.Bool.Decides.{nat_tests}
-use Rattle.xv_region.specs.Need.{need}
-use Rattle.xv_region.specs.Plan.{flat, flat_base}
-use Rattle.xv_region.specs.Rules.{Accepted, are_sound, first_fault, fault_from, is_sound}
-use Rattle.xv_region.proofs.RuleLemmas.{both, sound-each}
-use Rattle.xv_top.specs.declared.plan.BuiltPlan.{BuiltPlan}
-use Rattle.xv_top.specs.Guest.{region_of, seen}
+use Rattle.std.specs.List.{All}
+use Rattle.xv_csr.specs.Fields.{IsInstructionAddress}
+use Rattle.xv_top.specs.Births.{is_built}
+use Rattle.xv_base.specs.declared.keys.Span.{Span}
+use Rattle.xv_fdt.specs.Fault.{◌>>=◌}
+use Rattle.xv_fdt.specs.Tree.{Entry}
+use Rattle.xv_region.specs.declared.fault.RegionFault.{RegionFault}
+use Rattle.xv_region.specs.declared.fault.RegionFault.TheVariants.{Overlap, BadAlias, BadHost}
+use Rattle.xv_region.specs.declared.fault.RegionFault.TheVariants.{NoMemory}
+use Rattle.xv_region.specs.declared.plan.Kind.{Kind}
+use Rattle.xv_region.specs.declared.plan.Kind.TheVariants.{Ram, Rom, Reserved, Alias, Device}
+use Rattle.xv_region.specs.declared.plan.Region.{Region}
+use Rattle.xv_region.specs.Plan.{Plan, flat, flat_base}
+use Rattle.xv_region.specs.Rules.{are_sound, first_fault, fault_from, fault_of, kind_fault, unless}
+use Rattle.xv_region.specs.Rules.{is_good_alias, is_good_host, or_later, overlap_or, shares}
+use Rattle.xv_tree.specs.declared.fault.PlanFault.{PlanFault}
+use Rattle.xv_tree.specs.declared.fault.PlanKind.TheVariants.{NoAspace, NoVcpus}
+use Rattle.xv_tree.specs.Children.{children, root_child}
+use Rattle.xv_tree.specs.Fault.{in_turn}
+use Rattle.xv_tree.specs.Plan.{judged, number_needed, plan, regions_of}
+use Rattle.xv_tree.specs.Regions.{Kept, nothing_kept, with_node}
+use Rattle.xv_tree.specs.Vcpus.{vcpus_of}
 
-flat_sound : (pages : ℕ) → 1 ≤ pages → pages ≤ 131072 → IsTrue (are_sound (flat pages).regions)
+pub flat_sound : (pages : ℕ) → 1 ≤ pages → pages ≤ 131072 → IsTrue (are_sound (flat pages).regions)
 unfolding are_sound
 flat_sound pages some most =
     let size : eqb (4096 * pages % 4096) 0 ≡ true = grind (arith, nat_tests) in
@@ -17,39 +36,100 @@ flat_sound pages some most =
     let end : leb (flat_base + 4096 * pages) (2 ^ 41) ≡ true = grind (arith, nat_tests) in
     rw size (rw held (rw end refl))
 
-pub flat_accepted : (pages : ℕ) → 1 ≤ pages → pages ≤ 131072 → Accepted (flat pages).regions
+pub flat_faultless : (area : Span) (pages : ℕ) → first_fault area (flat pages).regions ≡ None
 unfolding first_fault fault_from
-flat_accepted pages some most = record {
-  area = record { start = 0; len = 0 };
-  sound = flat_sound pages some most;
-  faultless = refl;
-}
+flat_faultless area pages = refl
 
--- the one region begins and ends at a page
-sound_region : (plan : BuiltPlan) → Accepted (seen plan).regions
-    → is_sound (region_of plan.ram) ≡ true
-sound_region plan accepted =
-    (both (is_sound (region_of plan.ram)) true
-    (sound-each (seen plan).regions accepted.sound)).0
+pub flat_starts : (pages : ℕ) → All (λ vcpu. IsInstructionAddress vcpu.start) (flat pages).vcpus
+flat_starts pages zero d within = refl
+flat_starts pages (suc k) d within = absurd (omega arith)
 
-bounds : (a b c d e : Bool) → ((a && b) && (c && d) && e) ≡ true → (a ≡ true) × (b ≡ true)
-bounds true true c d e h = (refl, refl)
-bounds true false c d e h = cc
-bounds false b c d e h = cc
+pub flat_built : (pages : ℕ) → is_built (flat pages) ≡ true
+flat_built pages = refl
 
-pub paged : (plan : BuiltPlan) → Accepted (seen plan).regions
-    → (plan.ram.base % 4096 ≡ 0) × (plan.ram.size % 4096 ≡ 0)
-paged plan accepted =
-    let pages = bounds (eqb (plan.ram.base % 4096) 0) (eqb (plan.ram.size % 4096) 0)
-    (ltb 0 plan.ram.size) (leb (plan.ram.base + plan.ram.size) (2 ^ 41)) true
-    (sound_region plan accepted) in
-    (grind (arith, nat_tests, pages.0), grind (arith, nat_tests, pages.1))
+-- ---- a tree's plan
 
-pub pages_needed : (plan : BuiltPlan) → plan.ram.size / 4096 ≤ need (seen plan).regions
-unfolding need
-pages_needed plan = omega arith
+unless_wants : (b : Bool) (fault : RegionFault) → (fault ≡ NoMemory → ⊥)
+    → unless b fault ≡ Some NoMemory → ⊥
+unless_wants true fault other is = cc
+unless_wants false fault other is = other (cc)
 
--- frames for its pages are among those that it takes
-pub size_needed : (plan : BuiltPlan) → Accepted (seen plan).regions
-    → plan.ram.size ≤ 4096 * need (seen plan).regions
-size_needed plan accepted = omega (arith, (paged plan accepted).1, pages_needed plan)
+-- no rule gives want of memory
+kind_wants : (area : Span) (regions earlier : List Region) (j size : ℕ) (kind : Kind)
+    → kind_fault area regions earlier j size kind ≡ Some NoMemory → ⊥
+kind_wants area regions earlier j size Ram is = cc
+kind_wants area regions earlier j size Rom is = cc
+kind_wants area regions earlier j size (Reserved host) is =
+    unless_wants (is_good_host area earlier host size) (BadHost j) (λ same. cc) is
+kind_wants area regions earlier j size (Alias target) is =
+    unless_wants (is_good_alias regions target size) (BadAlias j) (λ same. cc) is
+kind_wants area regions earlier j size (Device kind) is = cc
+
+overlap_wants : (j : ℕ) (i : Option ℕ) (later : Option RegionFault)
+    → (later ≡ Some NoMemory → ⊥) → overlap_or j i later ≡ Some NoMemory → ⊥
+overlap_wants j None later other is = other is
+overlap_wants j (Some i) later other is = cc
+
+later_wants : (first later : Option RegionFault) → (first ≡ Some NoMemory → ⊥)
+    → (later ≡ Some NoMemory → ⊥) → or_later first later ≡ Some NoMemory → ⊥
+later_wants None later first_not later_not is = later_not is
+later_wants (Some fault) later first_not later_not is = first_not is
+
+fault_wants : (area : Span) (regions : List Region) (j : ℕ) (rs : List Region)
+    → fault_from area regions j rs ≡ Some NoMemory → ⊥
+unfolding fault_from
+fault_wants area regions j [] is = cc
+fault_wants area regions j (r ∷ rs) is =
+    later_wants (fault_of area regions (take j regions) j r) (fault_from area regions (suc j) rs)
+    (overlap_wants j (position (shares r) (take j regions)) _
+    (kind_wants area regions (take j regions) j r.size r.kind))
+    (fault_wants area regions (suc j) rs) is
+
+first_wants : (area : Span) (regions : List Region) → first_fault area regions ≡ Some NoMemory → ⊥
+unfolding first_fault
+first_wants area regions is = fault_wants area regions 0 regions is
+
+judged_faultless : (kept : Kept) (o : Option RegionFault) (regions : List Region)
+    → (o ≡ Some NoMemory → ⊥) → judged kept o ≡ Ok regions → (o ≡ None) × (kept.regions ≡ regions)
+judged_faultless kept None regions other is = (refl, cc)
+judged_faultless kept (Some (Overlap i j)) regions other is = cc
+judged_faultless kept (Some (BadAlias j)) regions other is = cc
+judged_faultless kept (Some (BadHost j)) regions other is = cc
+judged_faultless kept (Some NoMemory) regions other is = absurd (other refl)
+
+-- what a step gave, where all went well
+record WentOn {A B E : Type 0} (r : Result A E) (f : A → Result B E) (y : B) : Type 0 where
+  pub value : A
+  pub first : r ≡ Ok value
+  pub rest : f value ≡ Ok y
+
+went_on : {A B E : Type 0} (r : Result A E) (f : A → Result B E) (y : B) → (r >>= f) ≡ Ok y
+    → WentOn r f y
+went_on (Ok x) f y is = record { value = x; first = refl; rest = is }
+went_on (Err e) f y is = absurd cc
+
+regions_faultless : (area : Span) (r : Result Kept PlanFault) (regions : List Region)
+    → (r >>= λ kept. judged kept (first_fault area kept.regions)) ≡ Ok regions
+    → first_fault area regions ≡ None
+regions_faultless area (Err e) regions is = cc
+regions_faultless area (Ok kept) regions is =
+    let judged = judged_faultless kept (first_fault area kept.regions) regions
+    (first_wants area kept.regions) is in
+    ap (first_fault area) (sym judged.1) ∙ judged.0
+
+-- the plan that a tree describes has no fault over the area
+pub tree_faultless : (entries : List Entry) (area : Span) (p : Plan) → plan entries area ≡ Ok p
+    → first_fault area p.regions ≡ None
+unfolding plan
+tree_faultless entries area p is =
+    let aspace = went_on (number_needed NoAspace (root_child (codes "aspace") entries)) _ p is in
+    let vcpus = went_on (number_needed NoVcpus (root_child (codes "vcpus") entries)) _ p aspace.rest
+    in
+    let described = went_on (vcpus_of (children vcpus.value entries)) _ p vcpus.rest in
+    let found = went_on (regions_of area (children aspace.value entries)) _ p described.rest in
+    let same : found.value ≡ p.regions =
+    let end : record { regions = found.value; vcpus = described.value } ≡ p = cc in
+    ap (λ (x : Plan). x.regions) end in
+    subst (λ (rs : List Region). first_fault area rs ≡ None) same
+    (regions_faultless area (in_turn with_node nothing_kept (children aspace.value entries))
+    found.value found.first)

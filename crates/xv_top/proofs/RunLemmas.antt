@@ -1,6 +1,12 @@
 -- A run of turns, turn by turn: what is made so far, continued by the rest, is the whole.
-use Rattle.std.proofs.Common.{◌≡◌, ℕ, suc, ◌+◌, ◌-◌, ◌<◌, ◌≤◌, Bool, true, false, List, [], refl}
-use Rattle.std.proofs.Common.{sym, ap, ◌∙◌, arith}
+use Rattle.std.proofs.Common.{◌≡◌, ℕ, suc, ◌+◌, ◌-◌, ◌<◌, ◌≤◌, Bool, true, false, List, [], ◌∷◌}
+use Rattle.std.proofs.Common.{length, refl, sym, ap, ◌∙◌, arith}
+use Rattle.std.proofs.lemmas.List.{length-append}
+use Rattle.xv_region.specs.Plan.{Plan}
+use Rattle.xv_lone.specs.Machine.{Machine}
+use Rattle.xv_lone.specs.Trail.{IsTrail, NoPiece, OneMore}
+use Rattle.xv_lone.specs.Turn.{Core, steps, visited}
+use Rattle.xv_host.specs.Host.{Host}
 use Rattle.xv_top.specs.World.{World, GuestEntry, RunSoFar, one_turn, pick, run_from, run_of}
 use Rattle.xv_top.specs.Manager.{going, IsTurn, IsRunEnd, idle_of}
 
@@ -12,11 +18,11 @@ pub record IsGoing (turns made : ℕ) (first now : World)
   pub whole : run_from (turns - made) (going now idle work entries) ≡ run_of turns first
   pub counted : taken_first + work ≤ taken_now
 
--- and as long as it entered nothing into a journal, host memory is as at first
+-- and as long as it entered nothing into a journal, host memory and the host are as at first
 pub record IsKept (turns made : ℕ) (first now : World) (idle taken_first taken_now : ℕ)
-    (bytes_first bytes_now : List ℕ) : Type 0 where
+    (bytes_first bytes_now : List ℕ) (host_first host_now : Host) : Type 0 where
   pub so_far : IsGoing turns made first now idle taken_first taken_now
-  pub all : so_far.entries ≡ [] → bytes_now ≡ bytes_first
+  pub all : so_far.entries ≡ [] → (bytes_now ≡ bytes_first) × (host_now ≡ host_first)
 
 pub turns_start : (turns : ℕ) (first : World) (taken : ℕ)
     → IsGoing turns 0 first first 0 taken taken
@@ -62,22 +68,24 @@ turns_go_on turns made first now after idle taken_first taken_now taken_after mo
 
 pub kept_goes_on : (turns made : ℕ) (first now after : World)
     (idle taken_first taken_now taken_after : ℕ) (bytes_first bytes_now bytes_after : List ℕ)
-    → made < turns
-    → (kept : IsKept turns made first now idle taken_first taken_now bytes_first bytes_now)
+    (host_first host_now host_after : Host) → made < turns
+    → (kept : IsKept turns made first now idle taken_first taken_now bytes_first bytes_now
+    host_first host_now)
     → (turned : Bool)
     → IsTurn now after turned (taken_after - taken_now) idle kept.so_far.work kept.so_far.entries
     → taken_now ≤ taken_after
     → ((earlier : RunSoFar) → (one_turn earlier (pick now)).entries ≡ [] → (earlier.entries ≡ [])
-    × (bytes_after ≡ bytes_now))
+    × ((bytes_after ≡ bytes_now) × (host_after ≡ host_now)))
     → IsKept turns (made + 1) first after (idle + idle_of turned) taken_first taken_after
-    bytes_first bytes_after
+    bytes_first bytes_after host_first host_after
 unfolding turns_go_on
 kept_goes_on turns made first now after idle taken_first taken_now taken_after bytes_first bytes_now
-    bytes_after more kept turned turn later stays = record {
+    bytes_after host_first host_now host_after more kept turned turn later stays = record {
       so_far = turns_go_on turns made first now after idle taken_first taken_now taken_after more
           kept.so_far turned turn later;
       all = λ none. let same = stays (going now idle kept.so_far.work kept.so_far.entries) none in
-          same.1 ∙ kept.all same.0;
+          let earlier = kept.all same.0 in
+          (same.1.0 ∙ earlier.0, same.1.1 ∙ earlier.1);
     }
 
 -- no turn is left
@@ -110,3 +118,23 @@ entries_end turns made first now idle taken_first taken_now all so_far =
 pub idle_few : (idle : Bool) → idle_of idle ≤ 1
 idle_few true = omega arith
 idle_few false = omega arith
+
+-- ---- the lone steps of a turn
+
+-- each has a piece of the trail
+trail_counts : {E : Type 0} (shown : E → Core) (cores : List Core) (trail : List E)
+    → IsTrail shown cores trail → length cores ≤ length trail
+trail_counts shown _ _ NoPiece = omega arith
+trail_counts shown _ _ (OneMore cores trail core piece earlier all) =
+    omega (
+      arith,
+      length-append cores (core ∷ []),
+      length-append trail piece,
+      all.some,
+      trail_counts shown cores trail earlier,
+    )
+
+pub steps_few : {E : Type 0} (shown : E → Core) (plan : Plan) (t : ℕ) (m : Machine)
+    (trail : List E) → IsTrail shown (visited plan 0 t m) trail → steps plan 0 t m ≤ length trail
+unfolding steps
+steps_few shown plan t m trail pieces = trail_counts shown (visited plan 0 t m) trail pieces

@@ -36,10 +36,11 @@ where_there w next None = refused w (codes "guest")
 where_there w next (Some g) = next g
 
 -- what follows where the guest is there and in its reset state
+abbrev pub if_reset : World → (LiveGuest → Answer) → LiveGuest → Answer
+if_reset w next g = if is_reset g.machine.state then next g else refused w (codes "state")
+
 abbrev pub where_reset : World → (LiveGuest → Answer) → Option LiveGuest → Answer
-where_reset w next None = refused w (codes "guest")
-where_reset w next (Some g) =
-    if is_reset g.machine.state then next g else refused w (codes "state")
+where_reset w next o = where_there w (if_reset w next) o
 
 -- what follows on the bytes of a file, which must be there and within the limit
 abbrev pub with_file : World → (limit : ℕ) → (List ℕ → Answer) → Option (List ℕ) → Answer

@@ -1,15 +1,12 @@
 -- The commands by which a guest is born.
-use Rattle.std.specs.Prelude.{ℕ, nat_lt, ◌==◌, Bool, true, false, ◌&&◌, if◌then◌else◌, List, []}
-use Rattle.std.specs.Prelude.{◌∷◌}
-use Rattle.std.specs.Prelude.{◌++◌, length, is_some, codes, Result, Ok, Err}
+use Rattle.std.specs.Prelude.{ℕ, nat_lt, ◌==◌, Bool, ◌&&◌, if◌then◌else◌, List, [], ◌∷◌, ◌++◌}
+use Rattle.std.specs.Prelude.{length, is_some, codes, Result, Ok, Err}
+use Rattle.std.specs.List.{list_all}
 use Rattle.xv_outside.specs.Fetch.{FileMap}
 use Rattle.xv_fdt.specs.Fault as fdt
 use Rattle.xv_fdt.specs.Grammar.{tree}
 use Rattle.xv_fdt.specs.Tree.{Entry}
-use Rattle.xv_region.specs.declared.plan.Kind.{Kind}
-use Rattle.xv_region.specs.declared.plan.Kind.TheVariants.{Ram, Rom, Reserved, Alias, Device}
-use Rattle.xv_region.specs.declared.plan.Region.{Region}
-use Rattle.xv_region.specs.Need.{need}
+use Rattle.xv_region.specs.Need.{is_mapped, need}
 use Rattle.xv_region.specs.Plan.{Plan, flat}
 use Rattle.xv_tree.specs.declared.fault.PlanFault.{PlanFault}
 use Rattle.xv_tree.specs.Plan as trees
@@ -18,15 +15,20 @@ use Rattle.xv_lone.specs.Journal.{Born}
 use Rattle.xv_top.specs.Answer.{Answer, says, refused, with_file}
 use Rattle.xv_top.specs.Files.{file_of, most_tree}
 use Rattle.xv_top.specs.Texts.{frames_text, created_text, tree_text, plan_text}
-use Rattle.xv_top.specs.World.{World, free, guest_named}
+use Rattle.xv_top.specs.World.{World, free, least_root, guest_named}
 
--- a guest of this plan is born
+-- a guest of this plan is born, with the least root that no other has
 abbrev pub created : World → List ℕ → Plan → Answer
 created w name plan = record {
   text = created_text name (length plan.vcpus) (length plan.regions) (need plan.regions);
   world = record w {
     guests = w.guests
-        ++ record { name = name; plan = plan; machine = new_machine plan w.clock } ∷ [];
+        ++ record {
+          name = name;
+          root = least_root w;
+          plan = plan;
+          machine = new_machine plan w.clock;
+        } ∷ [];
   };
   entries = record { name = name; entry = Born w.clock } ∷ [];
   work = 0;
@@ -51,21 +53,9 @@ flat_answer w name pages = where_alone w name (admitted w name (flat pages))
 
 -- ---- from a tree
 
-abbrev pub is_ram : Kind → Bool
-is_ram Ram = true
-is_ram Rom = false
-is_ram (Reserved host) = false
-is_ram (Alias target) = false
-is_ram (Device kind) = false
-
-abbrev pub is_one_ram : List Region → Bool
-is_one_ram [] = false
-is_one_ram (r ∷ []) = is_ram r.kind
-is_one_ram (r ∷ s ∷ others) = false
-
--- the plans that are built have one VCPU and one region, of RAM
+-- the plans that are built have one VCPU and no device
 abbrev pub is_built : Plan → Bool
-is_built plan = is_one_ram plan.regions && length plan.vcpus == 1
+is_built plan = list_all (λ r. is_mapped r.kind) plan.regions && length plan.vcpus == 1
 
 abbrev pub plan_answer : World → List ℕ → Result Plan PlanFault → Answer
 plan_answer w name (Ok plan) =

@@ -1,22 +1,21 @@
 -- What stands at each end of the program.
-use Rattle.std.specs.Prelude.{◌≡◌, ℕ, ◌+◌, ◌≤◌, ◌⊎◌, List, [], ◌∷◌, ◌++◌, length, take, Option}
-use Rattle.std.specs.Prelude.{Some, None, option_map, codes, Ok, Err, IsTrue}
+use Rattle.std.specs.Prelude.{◌≡◌, ℕ, ◌+◌, ◌≤◌, ◌⊎◌, Bool, List, [], ◌∷◌, ◌++◌, length, map}
+use Rattle.std.specs.Prelude.{replicate, take, Option, Some, None, option_map, codes, Ok, Err}
+use Rattle.std.specs.Prelude.{IsTrue}
 use Rattle.xv_outside.specs.Outside.{taken_with, left_after, TookFront}
-use Rattle.xv_mem.specs.Bytes.{range}
 use Rattle.xv_outside.specs.Fetch.{FileMap}
-use Rattle.xv_region.specs.declared.plan.Region.{Region}
-use Rattle.xv_region.specs.Need.{own_size}
-use Rattle.xv_lone.specs.Memory.{Memory}
+use Rattle.xv_script.specs.declared.command.Command.{Command}
 use Rattle.xv_script.specs.declared.command.Line.{Line}
 use Rattle.xv_script.specs.declared.fault.ScriptKind.{ScriptKind}
 use Rattle.xv_script.specs.Script.{commands, most_bytes}
 use Rattle.xv_hart.specs.declared.machine.Machine.{Machine}
 use Rattle.xv_hart.specs.Hart.{taken_by}
-use Rattle.xv_hart.specs.Machine.{area_of}
-use Rattle.xv_top.specs.World.{LiveGuest, first_world}
-use Rattle.xv_top.specs.Layout.{host_base, memory_size}
+use Rattle.xv_hart.specs.Machine.{area_of, IsBare}
+use Rattle.xv_host.specs.Stands.{Seen, Stands}
+use Rattle.xv_top.specs.World.{LiveGuest, World, first_world}
+use Rattle.xv_top.specs.Layout.{memory_size}
 use Rattle.xv_top.specs.Texts.{script_text}
-use Rattle.xv_top.specs.Commands.{answer, is_fetching}
+use Rattle.xv_top.specs.Commands.{answer}
 use Rattle.xv_top.specs.Files.{StandsFor}
 use Rattle.xv_top.specs.Journals.{entries_by, AreReplayed}
 use Rattle.xv_top.specs.Transcript.{answers, fetches, world_after, work_after, transcript}
@@ -42,17 +41,10 @@ pub record ReadsAtMost (limit : ℕ) (old new : Option (List ℕ)) : Type 0 wher
   pub within : count ≤ limit
   pub left : new ≡ left_after old count
 
--- the regions' own bytes lie one after another in host memory, from a host address on
-abbrev pub memory_from : ℕ → List Region → List ℕ → Memory
-memory_from at [] bytes = []
-memory_from at (r ∷ rs) bytes =
-    range bytes at (own_size r.size r.kind) ∷ memory_from (at + own_size r.size r.kind) rs bytes
-
--- host memory holds the memory of each guest's lone machine
-abbrev pub HoldsWorld : List ℕ → List LiveGuest → Type 0
-HoldsWorld bytes [] = Unit {0}
-HoldsWorld bytes (g ∷ gs) = (g.machine.memory ≡ memory_from host_base g.plan.regions bytes)
-    × HoldsWorld bytes gs
+-- what a live guest has of host memory: its root table, its regions and its memory
+abbrev pub seen_of_live : LiveGuest → Seen
+seen_of_live g =
+    record { root = g.root; regions = g.plan.regions; memory = g.machine.memory }
 
 -- the script is what the source had, where it tells its bytes
 abbrev pub IsScriptOf : Option (List ℕ) → List ℕ → Type 0
@@ -64,12 +56,13 @@ abbrev pub emptied : Option (List ℕ) → Option (List ℕ)
 emptied left = option_map (λ bytes. []) left
 
 -- The machine holds the world that lines leave: the machine of each guest in it is the replay of
--- its own journal, host memory holds the memory of each, and the hart has stepped as it says. No
--- part of host memory is reserved.
+-- its own journal, the tables in host memory lead each guest to its own memory and to nothing else,
+-- and the hart has stepped as it says. No part of host memory is reserved.
 pub record Holds (mib : ℕ) (files : FileMap) (lines : List Line) (machine : Machine) : Type 0 where
   pub size : length machine.mem ≡ memory_size mib
   pub area : machine.area ≡ area_of mib 0
-  pub memory : HoldsWorld machine.mem (world_after files (first_world mib) lines).guests
+  pub stands : Stands machine.mem
+      (map seen_of_live (world_after files (first_world mib) lines).guests)
   pub journals : AreReplayed (entries_by files (first_world mib) lines)
       (world_after files (first_world mib) lines).guests
   pub stepped : work_after files (first_world mib) lines ≤ taken_by machine.hart
@@ -119,27 +112,28 @@ pub record LineOf (script : List ℕ) : Type 0 where
   pub after : List Line
   pub grammar : commands script ≡ Ok (before ++ line ∷ after)
 
--- A line came to the fetch of its file: what the lines before it answer was taken and nothing else,
--- and the machine holds their world.
-pub record HasStoppedAt (mib : ℕ) (files : FileMap) (before : List Line) (line : Line)
-    (taken_old taken_new : Option (List ℕ)) (machine : Machine) : Type 0 where
-  pub fetching : IsTrue (is_fetching (world_after files (first_world mib) before) line.command)
+-- A line stopped that may stop so: what the lines before it answer was taken and nothing else, and
+-- the machine holds their world.
+pub record HasStoppedAt (may_stop : World → Command → Bool) (mib : ℕ) (files : FileMap)
+    (before : List Line) (line : Line) (taken_old taken_new : Option (List ℕ)) (machine : Machine)
+    : Type 0 where
+  pub may : IsTrue (may_stop (world_after files (first_world mib) before) line.command)
   pub taken : taken_new ≡ taken_with taken_old (answers files (first_world mib) before)
   pub holds : Holds mib files before machine
 
--- One of the lines of a script stopped in the fetch of its file.
-pub record IsStoppedIn (mib : ℕ) (given : Option FileMap) (script : List ℕ)
-    (taken_old taken_new : Option (List ℕ)) (machine : Machine) : Type 0 where
+-- One of the lines of a script stopped that may stop so.
+pub record IsStoppedIn (may_stop : World → Command → Bool) (mib : ℕ) (given : Option FileMap)
+    (script : List ℕ) (taken_old taken_new : Option (List ℕ)) (machine : Machine) : Type 0 where
   pub at : LineOf script
   pub stopped : (files : FileMap)
       → StandsFor given files (fetches files (first_world mib) at.before)
-      → HasStoppedAt mib files at.before at.line taken_old taken_new machine
+      → HasStoppedAt may_stop mib files at.before at.line taken_old taken_new machine
 
-pub record IsStopped (mib : ℕ) (given : Option FileMap)
+pub record IsStopped (may_stop : World → Command → Bool) (mib : ℕ) (given : Option FileMap)
     (left_old taken_old taken_new : Option (List ℕ)) (machine : Machine) : Type 0 where
   pub script : List ℕ
   pub told : IsScriptOf left_old script
-  pub stopped : IsStoppedIn mib given script taken_old taken_new machine
+  pub stopped : IsStoppedIn may_stop mib given script taken_old taken_new machine
 
 -- What the lines before a line answer was taken, and a front of the answer to that line; the
 -- machine holds the world after it.
@@ -157,19 +151,29 @@ pub record IsCutLine (mib : ℕ) (given : Option FileMap) (script : List ℕ)
       → StandsFor given files (fetches files (first_world mib) (at.before ++ at.line ∷ []))
       → WasCutAt mib files at.before at.line taken_old taken_new machine
 
+-- Host memory is all zeros, as it is before the first line is run.
+abbrev pub IsZeros : Machine → Type 0
+IsZeros machine = machine.mem ≡ replicate (length machine.mem) 0
+
+-- No line was run: the machine is bare, or its memory is all zeros.
+abbrev pub IsUnused : Machine → Type 0
+IsUnused machine = IsBare machine ⊎ IsZeros machine
+
 -- The line of a refused script was cut short.
-pub record IsCutRefusal (script : List ℕ) (taken_old taken_new : Option (List ℕ)) : Type 0 where
+pub record IsCutRefusal (script : List ℕ) (taken_old taken_new : Option (List ℕ))
+    (machine : Machine) : Type 0 where
   pub line : ℕ
   pub kind : ScriptKind
   pub grammar : commands script ≡ Err (line, kind)
   pub taken : TookFront taken_old taken_new (script_text line kind)
+  pub zeros : IsZeros machine
 
 -- The sink failed in what the script gives.
 abbrev pub IsCutIn : ℕ → Option FileMap → (script : List ℕ)
     → (taken_old taken_new : Option (List ℕ)) → Machine → Type 0
 IsCutIn mib given script taken_old taken_new machine =
     IsCutLine mib given script taken_old taken_new machine
-    ⊎ IsCutRefusal script taken_old taken_new
+    ⊎ IsCutRefusal script taken_old taken_new machine
 
 pub record IsCutShort (mib : ℕ) (given : Option FileMap)
     (left_old taken_old taken_new : Option (List ℕ)) (machine : Machine) : Type 0 where

@@ -9,7 +9,7 @@ use Rattle.xv_script.specs.declared.command.Command.{Command}
 use Rattle.xv_script.specs.declared.command.Command.TheVariants as command
 use Rattle.xv_top.specs.Answer.{Answer, says, refused, changes, where_there, where_reset}
 use Rattle.xv_top.specs.Births.{create_answer, flat_answer}
-use Rattle.xv_top.specs.Contents.{load_guest, poke_guest, mem_guest, digest_guest}
+use Rattle.xv_top.specs.Contents.{load_guest, poke_guest, mem_guest, digest_guest, audit_guest}
 use Rattle.xv_top.specs.Texts.{kicked_text, ran_text, regs_text}
 use Rattle.xv_top.specs.World.{LiveGuest, World, RunSoFar, most_turns, guest_named, run_of}
 
@@ -59,7 +59,7 @@ answer files w (command.Destroy name) = unbuilt w
 answer files w (command.Regs name vcpu) = regs_guest w name vcpu (guest_named name w)
 answer files w (command.Mem name gpa len) = mem_guest w name gpa len (guest_named name w)
 answer files w (command.Digest name) = digest_guest w name (guest_named name w)
-answer files w (command.Audit name) = unbuilt w
+answer files w (command.Audit name) = audit_guest w name (guest_named name w)
 answer files w command.List = unbuilt w
 answer files w (command.Input name port bytes) = unbuilt w
 answer files w (command.Dump name port) = unbuilt w
@@ -74,9 +74,17 @@ abbrev pub is_loadable : Option LiveGuest → Bool
 is_loadable None = false
 is_loadable (Some g) = is_reset g.machine.state
 
+-- a guest of that name may be born: the name is not in use, and no other guest lives
+abbrev pub may_be_born : World → List ℕ → Bool
+may_be_born w name = not (is_some (guest_named name w)) && not (nat_lt 0 (length w.guests))
+
 -- the command comes to the fetch of its file, as it is refused by nothing before that
 unfoldable pub is_fetching : World → Command → Bool
-is_fetching w (command.Create name file) =
-    not (is_some (guest_named name w)) && not (nat_lt 0 (length w.guests))
+is_fetching w (command.Create name file) = may_be_born w name
 is_fetching w (command.Load name gpa file) = is_loadable (guest_named name w)
 is_fetching w _ = false
+
+-- the command may want memory: it comes to the fetch of its file, or to the birth of a flat guest
+unfoldable pub may_want_memory : World → Command → Bool
+may_want_memory w (command.Flat name pages) = may_be_born w name
+may_want_memory w c = is_fetching w c

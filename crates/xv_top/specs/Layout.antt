@@ -1,6 +1,6 @@
--- Where things lie in host memory: the root tables of 16 guests first, and behind them what guests
--- may take.
-use Rattle.std.specs.Prelude.{ℕ, ◌≡◌, ◌-◌, ◌*◌, ◌≤◌}
+-- How much of host memory there is, and what of it guests may take: what lies behind the root
+-- tables of 16 guests.
+use Rattle.std.specs.Prelude.{ℕ, ◌-◌, ◌*◌}
 
 -- the bytes of a frame
 abbrev pub frame_size : ℕ
@@ -14,10 +14,6 @@ mib_frames = 256
 abbrev pub root_frames : ℕ
 root_frames = 64
 
--- the host address from which on the guest's bytes lie
-abbrev pub host_base : ℕ
-host_base = frame_size * root_frames
-
 -- the frames that guests may take, of so many MiB of host memory
 abbrev pub pool_frames : ℕ → ℕ
 pool_frames mib = mib_frames * mib - root_frames
@@ -25,10 +21,3 @@ pool_frames mib = mib_frames * mib - root_frames
 -- and the bytes of so many MiB
 abbrev pub memory_size : ℕ → ℕ
 memory_size mib = frame_size * (mib_frames * mib)
-
--- a host memory of so many bytes has 8 to 512 MiB
-pub record HasMib (size : ℕ) : Type 0 where
-  pub mib : ℕ
-  pub is : size ≡ memory_size mib
-  pub least : 8 ≤ mib
-  pub most : mib ≤ 512

@@ -5,8 +5,6 @@ pub mod Commands
 pub mod Contents
 pub mod Files
 pub mod Layout
-pub mod Guest
-pub mod Monitor
 pub mod Journals
 pub mod Manager
 pub mod Run

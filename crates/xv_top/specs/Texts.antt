@@ -53,6 +53,9 @@ mem_text name gpa bytes =
 unfoldable pub digest_text : List ℕ → List ℕ → List ℕ
 digest_text name digest = codes "digest " ++ name ++ codes " " ++ hex_bytes digest ++ line_end
 
+unfoldable pub audit_text : List ℕ → ℕ → List ℕ
+audit_text name pages = codes "audit " ++ name ++ codes " " ++ decimal pages ++ line_end
+
 -- ---- a tree or a plan that is refused
 
 abbrev pub fdt_word : FdtKind → List ℕ

@@ -1,9 +1,11 @@
 -- The world: the clock, the scheduler's counts, and the lone machines of the live guests. It has no
 -- host memory and no hart.
 use Rattle.std.specs.Prelude.{ℕ, zero, suc, ◌+◌, ◌-◌, ◌%◌, ◌^◌, Bool, if◌then◌else◌, List, [], ◌∷◌}
-use Rattle.std.specs.Prelude.{◌++◌, map, find, sum_by, Option, Some, None}
+use Rattle.std.specs.Prelude.{◌++◌, ◌==◌, not, map, find, sum_by, Option, Some, None}
+use Rattle.std.specs.List.{list_any, position_or_len}
 use Rattle.std.specs.Str.{bytes_eq}
 use Rattle.xv_base.specs.declared.keys.Span.{Span}
+use Rattle.xv_pool.specs.FrameList.{up_from}
 use Rattle.xv_region.specs.Need.{need}
 use Rattle.xv_region.specs.Plan.{Plan}
 use Rattle.xv_lone.specs.Machine.{Machine, guest_time}
@@ -15,6 +17,8 @@ use Rattle.xv_top.specs.Layout.{pool_frames}
 
 pub record LiveGuest : Type 0 where
   pub name : List ℕ
+  -- the number of its root table
+  pub root : ℕ
   pub plan : Plan
   pub machine : Machine
 
@@ -42,6 +46,14 @@ first_world mib = record {
 -- the frames that no guest has
 abbrev pub free : World → ℕ
 free w = w.pool - sum_by (λ g. need g.plan.regions) w.guests
+
+-- no live guest has that root table
+abbrev pub is_root_free : World → ℕ → Bool
+is_root_free w root = not (list_any (λ g. g.root == root) w.guests)
+
+-- the least number of a root table, of 0 to 15, that no live guest has
+abbrev pub least_root : World → ℕ
+least_root w = position_or_len (is_root_free w) (up_from 0 16)
 
 -- the live guest of that name
 abbrev pub guest_named : List ℕ → World → Option LiveGuest

@@ -1,10 +1,7 @@
 //! The program's top call.
 #![tactic(auto)]
 
-mod guest;
-mod layout;
 mod manager;
-mod monitor;
 mod plan;
 mod program;
 mod read;

@@ -1,14 +1,14 @@
 //! The manager: what each line of a script does to the guests, and what it answers.
-ghost use Rattle.std.specs.Prelude.{◌≡◌, ℕ, ◌+◌, ◌-◌, ◌*◌, ◌^◌, ◌<◌, ◌≤◌, List, [], length, Option};
-ghost use Rattle.std.specs.Prelude.{Some, None, option_map, IfSome, IfOk, OnOk, OnErr, IsErrOf};
-ghost use Rattle.std.specs.Prelude.{true};
-ghost use Rattle.std.specs.Str.{bytes_eq};
+ghost use Rattle.std.specs.Prelude.{◌≡◌, ℕ, ◌+◌, ◌^◌, ◌<◌, ◌≤◌, List, [], length, IsSome};
+ghost use Rattle.std.specs.Prelude.{Some, None, IfSome, IfOk, OnOk, OnErr, IsErrOf, true};
 ghost use Rattle.xv_base.specs.Fault.{Rose};
 ghost use Rattle.xv_hart.specs.Hart.{taken_by};
 ghost use Rattle.xv_hart.specs.Machine.{IsFit};
+ghost use Rattle.xv_lone.specs.Ready.{is_reset};
 ghost use Rattle.xv_outside.specs.Fetch.{FileMap};
 
 mod admit;
+mod audit;
 mod create;
 mod digest;
 mod fetch;
@@ -20,142 +20,138 @@ mod poke;
 mod put;
 mod regs;
 mod run;
-mod stand;
-mod start;
 
-use crate::guest::Guest;
-use crate::layout::ROOT_FRAMES;
 use crate::refusals;
 use crate::stop::LineStop;
-use start::{some_map, up_from};
 use std::alloc::Global;
 use std::sync::ledger::Ledger;
-use xv_base::{GuestName, NoMemory, Span};
+use xv_base::{GuestKey, GuestName, NoMemory};
 use xv_hart::Machine;
+use xv_host::Host;
+use xv_lone::GuestState;
 use xv_mem::Steps;
 use xv_outside::Files;
 use xv_print::Printer;
-use xv_region::RegionMap;
 use xv_script::{Command, Line};
 
 /// The tick before a script changes it.
 const FIRST_TICK: u64 = 100;
 
-/// The guests, the clock and the scheduler's counts. All memory that it ever takes is taken by
-/// `new`.
+/// A guest of the script: its name, and the key under which the host knows it.
+#[derive(Clone, Copy)]
+pub struct Named {
+    pub name: GuestName,
+    pub key: GuestKey,
+}
+
+/// The host with its guests, the clock and the scheduler's counts.
 #[derive(Drop)]
 pub struct Manager {
-    pool: u32,
-    area: Span,
+    host: Host,
+    guest: Option<Named>,
     clock: u64,
     tick: u64,
     turns: u32,
-    guest: Option<Guest>,
-    // the frames that guests may take, in order
-    frames: Vec<u32>,
-    // the one region of the guest whose tables were filled last
-    map: RegionMap,
 }
 
 impl Manager {
-    ghost use Rattle.xv_lone.specs.Ready.{is_reset};
+    ghost use Rattle.xv_hart.specs.Machine.{area_of};
+    ghost use Rattle.xv_host.specs.Change.{OfGuest};
+    ghost use Rattle.xv_host.specs.Host.{IsFresh};
+    ghost use Rattle.xv_host.specs.Places.{guest_at};
     ghost use Rattle.xv_top.specs.Answer.{Answer, says, where_there, where_reset};
     ghost use Rattle.xv_top.specs.Commands.{answer, is_fetching, is_loadable};
     ghost use Rattle.xv_top.specs.Files.{StandsFor};
+    ghost use Rattle.xv_top.specs.Layout.{memory_size};
+    ghost use Rattle.xv_top.specs.Manager.{live_guest, live_of, named, world_of, HasGuests};
+    ghost use Rattle.xv_top.specs.Manager.{Gives, HasStopped, IsSound, may_stop};
     ghost use Rattle.xv_top.specs.World as worlds;
-    ghost use Rattle.std.specs.Prelude.{replicate};
-    ghost use Rattle.xv_hart.specs.Machine.{area_of};
-    ghost use Rattle.xv_top.specs.Layout.{memory_size, root_frames};
-    ghost use Rattle.xv_top.specs.Manager.{live_guest, world_of, Gives, KeepsFor, HasStopped};
-    ghost use Rattle.xv_top.specs.Manager.{IsSound};
     ghost use Rattle.xv_script.specs.Command.{IsInRange};
 
-    /// A manager with no guest yet, over a machine whose memory is zeros.
+    /// A manager with no guest yet, over a machine of zeros.
     pub fn new(alloc: Global, machine: &Machine) -> Result<Manager, NoMemory>
-        requires frames { 4096 * root_frames ≤ length machine.now.mem }
-        requires small { length machine.now.mem < 2 ^ 44 }
-        requires zeros { machine.now.mem ≡ replicate (length machine.now.mem) 0 }
-        ensures world { IfOk result (λ m. (mib : ℕ) (bytes : List ℕ) →
-            length machine.now.mem ≡ memory_size mib → machine.now.area ≡ area_of mib 0 →
-            world_of m bytes ≡ worlds.first_world mib) }
-        ensures sound { IfOk result (λ m. IsSound m machine.now.mem) }
+        requires fresh { IsFresh machine.now }
+        ensures world { IfOk result (λ m. (mib : ℕ) → length machine.now.mem ≡ memory_size mib →
+            machine.now.area ≡ area_of mib 0 →
+            world_of m machine.now.mem ≡ worlds.first_world mib) }
+        ensures sound { IfOk result (λ m. IsSound m machine.now) }
     {
-        let pool = machine.mem.frames() - ROOT_FRAMES;
+        let host = Host::new(alloc, machine)?;
         Ok(Manager {
-            pool,
-            area: machine.area,
+            host,
+            guest: None,
             clock: 0,
             tick: FIRST_TICK,
             turns: 0,
-            guest: None,
-            frames: up_from(alloc, ROOT_FRAMES, pool)?,
-            map: some_map(alloc)?,
         })
     }
 
-    /// The live guest of that name.
-    fn named(&self, name: &GuestName) -> Option<Guest>
+    /// The key of the live guest of that name.
+    fn key_of(&self, name: &GuestName) -> Option<GuestKey>
         ensures guest { (bytes : List ℕ) → worlds.guest_named name.now (world_of self.now bytes)
-            ≡ option_map (λ g. live_guest g bytes) result }
-        ensures there { IfSome result (λ g.
-            (self.now.guest ≡ Some g) × (bytes_eq g.name name.now ≡ true)) }
+            ≡ live_of name.now result self.now.host.guests bytes }
+        ensures named { IfSome result (λ key. self.now.guest ≡ Some (named name.now key)) }
     {
         let guest = self.guest?;
         if guest.name.bytes() == name.bytes() {
-            Some(guest)
+            Some(guest.key)
         } else {
             None
         }
     }
 
-    /// The live guest of that name, or the line that refuses a command on it is printed.
-    fn there(&self, name: &GuestName, printer: &mut Printer) -> Option<Guest>
-        requires { printer.old ≡ [] }
-        ensures guest { IfSome result (λ g.
-            (self.now.guest ≡ Some g) × (bytes_eq g.name name.now ≡ true)) }
-        ensures next { IfSome result (λ g. (bytes : List ℕ) (next : worlds.LiveGuest → Answer) →
+    /// The key of the live guest of that name, or the line that refuses a command on it is printed.
+    fn there(&self, name: &GuestName, printer: &mut Printer) -> Option<GuestKey>
+        requires empty { printer.old ≡ [] }
+        requires guests { HasGuests self.now.guest self.now.host.guests }
+        ensures named { IfSome result (λ key. self.now.guest ≡ Some (named name.now key)) }
+        ensures live { IfSome result (λ key. IsSome (guest_at self.now.host.guests key)) }
+        ensures next { IfSome result (λ key. OfGuest self.now.host.guests key (λ g.
+            (bytes : List ℕ) (next : worlds.LiveGuest → Answer) →
             where_there (world_of self.now bytes) next
-            (worlds.guest_named name.now (world_of self.now bytes)) ≡ next (live_guest g bytes)) }
-        ensures empty { IfSome result (λ g. printer.new ≡ []) }
+            (worlds.guest_named name.now (world_of self.now bytes))
+            ≡ next (live_guest name.now g bytes))) }
+        ensures empty { IfSome result (λ key. printer.new ≡ []) }
         ensures refused { result ≡ None → (bytes : List ℕ) (next : worlds.LiveGuest → Answer) →
             where_there (world_of self.now bytes) next
             (worlds.guest_named name.now (world_of self.now bytes))
             ≡ says (world_of self.now bytes) printer.new }
     {
-        let Some(guest) = self.named(name) else {
+        let Some(key) = self.key_of(name) else {
             refusals::refused(printer, b"guest");
             return None;
         };
-        Some(guest)
+        Some(key)
     }
 
-    /// The live guest of that name, which is in its reset state, or the line that refuses a command
-    /// on it is printed.
-    fn at_reset(&self, name: &GuestName, printer: &mut Printer) -> Option<Guest>
-        requires { printer.old ≡ [] }
-        ensures guest { IfSome result (λ g.
-            (self.now.guest ≡ Some g) × (bytes_eq g.name name.now ≡ true)) }
-        ensures next { IfSome result (λ g. (bytes : List ℕ) (next : worlds.LiveGuest → Answer) →
+    /// The key of the live guest of that name, which is in its reset state, or the line that
+    /// refuses a command on it is printed.
+    fn at_reset(&self, name: &GuestName, printer: &mut Printer) -> Option<GuestKey>
+        requires empty { printer.old ≡ [] }
+        requires guests { HasGuests self.now.guest self.now.host.guests }
+        ensures named { IfSome result (λ key. self.now.guest ≡ Some (named name.now key)) }
+        ensures next { IfSome result (λ key. OfGuest self.now.host.guests key (λ g.
+            (bytes : List ℕ) (next : worlds.LiveGuest → Answer) →
             where_reset (world_of self.now bytes) next
-            (worlds.guest_named name.now (world_of self.now bytes)) ≡ next (live_guest g bytes)) }
-        ensures reset { IfSome result (λ g. is_reset g.state ≡ true) }
-        ensures loadable { IfSome result (λ g. (bytes : List ℕ) →
+            (worlds.guest_named name.now (world_of self.now bytes))
+            ≡ next (live_guest name.now g bytes))) }
+        ensures loadable { IfSome result (λ key. (bytes : List ℕ) →
             is_loadable (worlds.guest_named name.now (world_of self.now bytes)) ≡ true) }
-        ensures empty { IfSome result (λ g. printer.new ≡ []) }
+        ensures empty { IfSome result (λ key. printer.new ≡ []) }
         ensures refused { result ≡ None → (bytes : List ℕ) (next : worlds.LiveGuest → Answer) →
             where_reset (world_of self.now bytes) next
             (worlds.guest_named name.now (world_of self.now bytes))
             ≡ says (world_of self.now bytes) printer.new }
     {
-        let Some(guest) = self.named(name) else {
+        let Some(key) = self.key_of(name) else {
             refusals::refused(printer, b"guest");
             return None;
         };
-        if !guest.is_reset() {
+        if !is_at_reset(self.host.guest(key).state()) {
             refusals::refused(printer, b"state");
             return None;
         }
-        Some(guest)
+        Some(key)
     }
 
     /// One line: what it does, and its answer in the printer. A line that stops does nothing, and
@@ -171,25 +167,19 @@ impl Manager {
     ) -> Result<(), LineStop>
         requires empty { printer.old ≡ [] }
         requires range { IsInRange line.now.command }
-        requires sound { IsSound self.old machine.old.mem }
+        requires sound { IsSound self.old machine.old }
         requires fit { IsFit machine.old }
         requires few { taken_by machine.old.hart < 2 ^ 61 }
 
         ensures answer { OnOk result ((told : FileMap) → StandsFor (F.map files.old) told
             (is_fetching (world_of self.old machine.old.mem) line.now.command) →
             Gives (answer told (world_of self.old machine.old.mem) line.now.command)
-            printer.new (world_of self.new machine.new.mem)
-            (taken_by machine.old.hart) (taken_by machine.new.hart)) }
-        ensures keeps { OnOk result ((told : FileMap) → StandsFor (F.map files.old) told
-            (is_fetching (world_of self.old machine.old.mem) line.now.command) →
-            KeepsFor line.now.command
-            (answer told (world_of self.old machine.old.mem) line.now.command)
-            self.old machine.old.mem machine.new.mem) }
+            self.old self.new machine.old machine.new printer.new) }
         ensures stopped { OnErr result
             (HasStopped self.old self.new machine.old machine.new printer.new) }
-        ensures fetching { OnErr result
-            (is_fetching (world_of self.old machine.old.mem) line.now.command ≡ true) }
-        ensures sound { IsSound self.new machine.new.mem }
+        ensures may { (stop : LineStop) → IsErrOf result stop →
+            may_stop stop (world_of self.old machine.old.mem) line.now.command ≡ true }
+        ensures sound { IsSound self.new machine.new }
         ensures fit { IsFit machine.new }
         ensures size { length machine.new.mem ≡ length machine.old.mem }
         ensures area { machine.new.area ≡ machine.old.area }
@@ -201,11 +191,8 @@ impl Manager {
         ensures later { F.faults files.old ≤ F.faults files.new }
     {
         match &line.command {
-            Command::Create(name, file) => self.create(alloc, files, name, file, printer),
-            Command::Flat(name, pages) => {
-                self.flat(name, *pages, printer);
-                Ok(())
-            }
+            Command::Create(name, file) => self.create(alloc, machine, files, name, file, printer),
+            Command::Flat(name, pages) => self.flat(alloc, machine, name, *pages, printer),
             Command::Load(name, gpa, file) => {
                 self.load(alloc, machine, files, name, *gpa, file, printer)
             }
@@ -214,7 +201,7 @@ impl Manager {
                 Ok(())
             }
             Command::Kick(name) => {
-                self.kick(machine, name, printer);
+                self.kick(name, printer);
                 Ok(())
             }
             Command::Regs(name, vcpu) => {
@@ -229,6 +216,10 @@ impl Manager {
                 self.digest(machine, name, printer);
                 Ok(())
             }
+            Command::Audit(name) => {
+                self.audit(machine, name, printer);
+                Ok(())
+            }
             Command::Run(turns) => {
                 self.run(machine, *turns, printer, steps);
                 Ok(())
@@ -239,4 +230,11 @@ impl Manager {
             }
         }
     }
+}
+
+/// Whether a guest has not been started since its create or its last reset.
+fn is_at_reset(state: GuestState) -> bool
+    ensures { result ≡ is_reset state }
+{
+    matches!(state, GuestState::Reset)
 }

@@ -1,24 +1,24 @@
 //! The program's call: from the script's bytes to the transcript's bytes.
-ghost use Rattle.std.specs.Prelude.{◌≡◌, ◌≢◌, ◌↔◌, ◌⊎◌, ◌+◌, ◌-◌, ◌*◌, ◌^◌, ◌<◌, ◌≤◌, ℕ, List, []};
-ghost use Rattle.std.specs.Prelude.{length, replicate, map, None, IfSome, IfOk, OnOk, OnErr};
-ghost use Rattle.std.specs.Prelude.{IsErrOf, IsErr, IsOk};
-ghost use Rattle.std.specs.List.{All};
+ghost use Rattle.std.specs.Prelude.{◌≡◌, ◌↔◌, ◌⊎◌, ◌^◌, ◌<◌, ◌≤◌, ℕ, [], length, map, IfSome};
+ghost use Rattle.std.specs.Prelude.{OnOk, IsErrOf, IsErr, IsOk};
 ghost use Rattle.std.specs.String.{string_bytes};
 ghost use Rattle.xv_base.specs.Fault.{Rose};
 ghost use Rattle.xv_outside.specs.Fetch.{FileMap};
-ghost use Rattle.xv_outside.specs.Outside.{taken_with, left_after, TookFront};
+ghost use Rattle.xv_outside.specs.Outside.{taken_with, TookFront};
 ghost use Rattle.xv_hart.specs.Hart.{taken_by};
 ghost use Rattle.xv_hart.specs.Machine.{area_of, IsBare, IsFit};
+ghost use Rattle.xv_host.specs.Host.{IsFresh};
 ghost use Rattle.xv_script.specs.Command.{AreInRange};
 ghost use Rattle.xv_script.specs.Script.{commands};
 ghost use Rattle.xv_top.specs.Boot.{AreRight, ReadsAtMost, IsServed, IsRun, IsNoScript, IsRefused};
-ghost use Rattle.xv_top.specs.Boot.{IsStopped, IsStoppedIn, IsCutShort, IsCutIn, IsCutRefusal};
-ghost use Rattle.xv_top.specs.Boot.{IsStatus, most_read};
+ghost use Rattle.xv_top.specs.Boot.{IsStopped, IsStoppedIn, IsCutShort, IsCutIn, IsStatus};
+ghost use Rattle.xv_top.specs.Boot.{IsUnused, most_read};
+ghost use Rattle.xv_top.specs.Commands.{is_fetching, may_want_memory};
 ghost use Rattle.xv_top.specs.Files.{StandsFor};
 ghost use Rattle.xv_top.specs.Run.{HaveRun, IsCut, IsStop};
 ghost use Rattle.xv_top.specs.Transcript.{fetches};
-ghost use Rattle.xv_top.specs.Layout.{memory_size, HasMib};
-ghost use Rattle.xv_top.specs.Manager.{world_of, IsSound};
+ghost use Rattle.xv_top.specs.Layout.{memory_size};
+ghost use Rattle.xv_top.specs.Manager.{world_of, may_stop, IsSound};
 ghost use Rattle.xv_top.specs.Texts.{script_text};
 
 use crate::manager::Manager;
@@ -30,6 +30,7 @@ use std::alloc::Global;
 use std::marker::Brand;
 use std::sync::ledger::{Blank, Ledger};
 use xv_hart::Machine;
+use xv_host::hosts_stand;
 use xv_mem::Steps;
 use xv_outside::{Failed, Files, Sink, Source};
 use xv_print::Printer;
@@ -85,16 +86,18 @@ pub fn boot<S: Source, K: Sink, F: Files>(
 
     // Faults come from outside alone, and what was written then is what the lines before answer.
     ensures read_fault { result ≡ 4 → Rose (S.faults source.old) (S.faults source.new) }
+    ensures refused_machine { result ≡ 3 → IsUnused machine.new }
     ensures read_fault_sink { result ≡ 4 → sink.new ≡ sink.old }
+    ensures read_fault_machine { result ≡ 4 → IsUnused machine.new }
     ensures write_fault { result ≡ 5 → Rose (K.faults sink.old) (K.faults sink.new) }
     ensures write_fault_sink { result ≡ 5 → IsCutShort MEM_MIB (F.map files.old)
         (S.left source.old) (K.taken sink.old) (K.taken sink.new) machine.new }
     ensures file_fault { result ≡ 6 → Rose (F.faults files.old) (F.faults files.new) }
-    ensures file_fault_sink { result ≡ 6 → IsStopped MEM_MIB (F.map files.old)
+    ensures file_fault_sink { result ≡ 6 → IsStopped is_fetching MEM_MIB (F.map files.old)
         (S.left source.old) (K.taken sink.old) (K.taken sink.new) machine.new }
-    ensures memory_sink { result ≡ 7 → (sink.new ≡ sink.old)
-        ⊎ (IsStopped MEM_MIB (F.map files.old) (S.left source.old) (K.taken sink.old)
-        (K.taken sink.new) machine.new) }
+    ensures memory_sink { result ≡ 7 → ((sink.new ≡ sink.old) × IsUnused machine.new)
+        ⊎ (IsStopped may_want_memory MEM_MIB (F.map files.old) (S.left source.old)
+        (K.taken sink.old) (K.taken sink.new) machine.new) }
 
     // Right words, a script in the grammar, and no fault: every line is run, or memory is wanting.
     ensures complete { AreRight (map (λ word. string_bytes word) words.now) →
@@ -141,7 +144,9 @@ fn serve<S: Source, K: Sink, F: Files>(
         (S.left source.new) (K.taken sink.old) (K.taken sink.new) }
     ensures read_fault { IsErrOf result Stop.ReadFault →
         Rose (S.faults source.old) (S.faults source.new) }
+    ensures refused_machine { IsErrOf result Stop.Refused → IsUnused machine.new }
     ensures read_fault_sink { IsErrOf result Stop.ReadFault → sink.new ≡ sink.old }
+    ensures read_fault_machine { IsErrOf result Stop.ReadFault → IsUnused machine.new }
     ensures write_fault { IsErrOf result Stop.WriteFault →
         Rose (K.faults sink.old) (K.faults sink.new) }
     ensures cut { IsErrOf result Stop.WriteFault → IsCutShort mib (F.map files.old)
@@ -149,9 +154,10 @@ fn serve<S: Source, K: Sink, F: Files>(
     ensures file_fault { IsErrOf result (Stop.InLine LineStop.FileFault) →
         Rose (F.faults files.old) (F.faults files.new) }
     ensures stopped { (stop : LineStop) → IsErrOf result (Stop.InLine stop) →
-        IsStopped mib (F.map files.old) (S.left source.old) (K.taken sink.old)
-        (K.taken sink.new) machine.new }
+        IsStopped (may_stop stop) mib (F.map files.old) (S.left source.old)
+        (K.taken sink.old) (K.taken sink.new) machine.new }
     ensures memory_sink { IsErrOf result Stop.NoMemory → sink.new ≡ sink.old }
+    ensures memory_machine { IsErrOf result Stop.NoMemory → IsUnused machine.new }
     ensures within { ReadsAtMost most_read (S.left source.old) (S.left source.new) }
     ensures source_later { S.faults source.old ≤ S.faults source.new }
     ensures sink_later { K.faults sink.old ≤ K.faults sink.new }
@@ -181,8 +187,7 @@ fn run_script<K: Sink, F: Files>(
     printer: &mut Printer,
 ) -> Result<(), Stop>
     requires empty { printer.old ≡ [] }
-    requires size { HasMib (length machine.old.mem) }
-    requires zeros { machine.old.mem ≡ replicate (length machine.old.mem) 0 }
+    requires fresh { IsFresh machine.old }
     requires taken { taken_by machine.old.hart ≡ 0 }
     requires fit { IsFit machine.old }
     ensures served { (mib : ℕ) → length machine.old.mem ≡ memory_size mib →
@@ -197,11 +202,13 @@ fn run_script<K: Sink, F: Files>(
     ensures cause { IsErrOf result Stop.WriteFault → Rose (K.faults sink.old) (K.faults sink.new) }
     ensures stopped { (mib : ℕ) (stop : LineStop) → length machine.old.mem ≡ memory_size mib →
         machine.old.area ≡ area_of mib 0 → IsErrOf result (Stop.InLine stop) →
-        IsStoppedIn mib (F.map files.old) text.now (K.taken sink.old) (K.taken sink.new)
-        machine.new }
+        IsStoppedIn (may_stop stop) mib (F.map files.old) text.now (K.taken sink.old)
+        (K.taken sink.new) machine.new }
     ensures file_fault { IsErrOf result (Stop.InLine LineStop.FileFault) →
         Rose (F.faults files.old) (F.faults files.new) }
+    ensures refused_machine { IsErrOf result Stop.Refused → machine.new ≡ machine.old }
     ensures memory { IsErrOf result Stop.NoMemory → sink.new ≡ sink.old }
+    ensures memory_machine { IsErrOf result Stop.NoMemory → machine.new ≡ machine.old }
     ensures read { IsErrOf result Stop.ReadFault → ⊥ }
     ensures later { K.faults sink.old ≤ K.faults sink.new }
     ensures files_map { F.map files.new ≡ F.map files.old }
@@ -215,6 +222,7 @@ fn run_script<K: Sink, F: Files>(
     let Ok(mut manager) = Manager::new(alloc, machine) else {
         return Err(Stop::NoMemory);
     };
+    hosts_stand();
     run_counted::<K, F, Brand>(
         alloc,
         sink,
@@ -268,7 +276,7 @@ fn run_counted<K: Sink, F: Files, L: Ledger>(
     requires part { 0 < blank.parts }
     requires range { AreInRange lines.now }
     requires few { length lines.now ≤ 2 ^ 20 }
-    requires sound { IsSound manager.old machine.old.mem }
+    requires sound { IsSound manager.old machine.old }
     requires taken { taken_by machine.old.hart ≡ 0 }
     requires fit { IsFit machine.old }
 
@@ -283,13 +291,14 @@ fn run_counted<K: Sink, F: Files, L: Ledger>(
         (taken_by machine.new.hart) }
     ensures cause { IsErrOf result Stop.WriteFault → Rose (K.faults sink.old) (K.faults sink.new) }
     ensures stopped { (stop : LineStop) → IsErrOf result (Stop.InLine stop) →
-        IsStop (F.map files.old) lines.now (world_of manager.old machine.old.mem)
-        (world_of manager.new machine.new.mem) (K.taken sink.old) (K.taken sink.new)
-        (taken_by machine.new.hart) }
+        IsStop (may_stop stop) (F.map files.old) lines.now
+        (world_of manager.old machine.old.mem) (world_of manager.new machine.new.mem)
+        (K.taken sink.old) (K.taken sink.new) (taken_by machine.new.hart) }
     ensures file_fault { IsErrOf result (Stop.InLine LineStop.FileFault) →
         Rose (F.faults files.old) (F.faults files.new) }
     ensures others { (IsErrOf result Stop.Refused → ⊥) × ((IsErrOf result Stop.ReadFault → ⊥)
         × (IsErrOf result Stop.NoMemory → ⊥)) }
+    ensures sound { IsSound manager.new machine.new }
     ensures size { length machine.new.mem ≡ length machine.old.mem }
     ensures area { machine.new.area ≡ machine.old.area }
     ensures later { K.faults sink.old ≤ K.faults sink.new }
@@ -315,7 +324,7 @@ fn run_all<K: Sink, F: Files, L: Ledger>(
 ) -> Result<(), Stop>
     requires range { AreInRange lines.now }
     requires few { length lines.now ≤ 2 ^ 20 }
-    requires sound { IsSound manager.old machine.old.mem }
+    requires sound { IsSound manager.old machine.old }
     requires taken { taken_by machine.old.hart ≡ 0 }
     requires fit { IsFit machine.old }
 
@@ -330,13 +339,14 @@ fn run_all<K: Sink, F: Files, L: Ledger>(
         (taken_by machine.new.hart) }
     ensures cause { IsErrOf result Stop.WriteFault → Rose (K.faults sink.old) (K.faults sink.new) }
     ensures stopped { (stop : LineStop) → IsErrOf result (Stop.InLine stop) →
-        IsStop (F.map files.old) lines.now (world_of manager.old machine.old.mem)
-        (world_of manager.new machine.new.mem) (K.taken sink.old) (K.taken sink.new)
-        (taken_by machine.new.hart) }
+        IsStop (may_stop stop) (F.map files.old) lines.now
+        (world_of manager.old machine.old.mem) (world_of manager.new machine.new.mem)
+        (K.taken sink.old) (K.taken sink.new) (taken_by machine.new.hart) }
     ensures file_fault { IsErrOf result (Stop.InLine LineStop.FileFault) →
         Rose (F.faults files.old) (F.faults files.new) }
     ensures others { (IsErrOf result Stop.Refused → ⊥) × ((IsErrOf result Stop.ReadFault → ⊥)
         × (IsErrOf result Stop.NoMemory → ⊥)) }
+    ensures sound { IsSound manager.new machine.new }
     ensures size { length machine.new.mem ≡ length machine.old.mem }
     ensures area { machine.new.area ≡ machine.old.area }
     ensures later { K.faults sink.old ≤ K.faults sink.new }

@@ -84,6 +84,20 @@ pub fn digest(printer: &mut Printer, name: &[u8], digest: &[u8; 32])
     printer.text(b"\n");
 }
 
+/// `audit NAME PAGES`
+#[tactic(auto, unfolding(crate::specs::Texts::audit_text))]
+pub fn audit(printer: &mut Printer, name: &[u8], pages: u64)
+    requires empty { printer.old ≡ [] }
+    requires short { length name.now ≤ 40 }
+    ensures { printer.new ≡ texts.audit_text name.now pages }
+{
+    printer.text(b"audit ");
+    printer.text(name);
+    printer.text(b" ");
+    printer.number(pages);
+    printer.text(b"\n");
+}
+
 /// `kicked NAME`
 #[tactic(auto, unfolding(crate::specs::Texts::kicked_text))]
 pub fn kicked(printer: &mut Printer, name: &[u8])

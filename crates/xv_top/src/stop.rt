@@ -20,6 +20,6 @@ pub enum Stop {
 pub enum LineStop {
     /// A file could not be read.
     FileFault,
-    /// Want of memory for a file, or for what is made of it.
+    /// Want of memory for a file, for what is made of it, or for a guest.
     NoMemory,
 }

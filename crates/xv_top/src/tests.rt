@@ -2,7 +2,7 @@ mod rows;
 mod trees;
 
 use crate::boot;
-use rows::{FileOf, ROWS, Row, TREES, TreeRow};
+use rows::{FAULT_ROWS, FileOf, ROWS, Row, TREES, TreeRow};
 use std::alloc::Global;
 use std::process::Abort;
 use std::test::Fail;
@@ -125,6 +125,11 @@ fn check_trees(rt: &impl Abort, alloc: Global, rows: &[TreeRow]) -> Result<(), F
 #[test]
 fn runs(rt: HostRuntime) -> Result<(), Fail> {
     check_runs(&rt, rt.alloc(), &ROWS)
+}
+
+#[test]
+fn faults_and_refused_scripts(rt: HostRuntime) -> Result<(), Fail> {
+    check_runs(&rt, rt.alloc(), &FAULT_ROWS)
 }
 
 #[test]

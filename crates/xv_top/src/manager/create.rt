@@ -1,21 +1,22 @@
 //! `guest create`
-ghost use Rattle.std.specs.Prelude.{◌≡◌, ℕ, ◌≤◌, List, [], Some, None, true, Ok, OnOk, OnErr};
-ghost use Rattle.std.specs.Prelude.{IsErrOf};
+ghost use Rattle.std.specs.Prelude.{◌≡◌, ◌≤◌, [], length, None, true, Ok, OnOk, OnErr, IsErrOf};
+ghost use Rattle.std.specs.Prelude.{IsTrue};
 ghost use Rattle.std.specs.List.{All};
 ghost use Rattle.xv_base.specs.Fault.{Rose};
 ghost use Rattle.xv_csr.specs.Fields.{IsInstructionAddress};
 ghost use Rattle.xv_outside.specs.Fetch.{FileMap};
 ghost use Rattle.xv_fdt.specs.Grammar.{IsAllowed, tree};
-ghost use Rattle.xv_region.specs.Rules.{Accepted};
+ghost use Rattle.xv_region.specs.Rules.{are_sound, first_fault};
 
 use super::Manager;
 use super::fetch::fetch;
-use crate::plan::BuiltPlan;
+use crate::plan::is_built;
 use crate::refusals;
 use crate::stop::LineStop;
 use std::alloc::Global;
 use xv_base::{FileName, GuestName};
 use xv_fdt::{FdtFault, Tree, read};
+use xv_hart::Machine;
 use xv_outside::Files;
 use xv_print::Printer;
 use xv_region::Plan;
@@ -30,28 +31,32 @@ impl Manager {
     ghost use Rattle.xv_top.specs.Births.{create_answer, tree_answer, plan_answer};
     ghost use Rattle.xv_top.specs.Commands.{is_fetching};
     ghost use Rattle.xv_top.specs.Files.{StandsFor};
-    ghost use Rattle.xv_top.specs.Manager.{world_of, Gives, IsSound};
+    ghost use Rattle.xv_top.specs.Manager.{world_of, Gives, HasStopped, IsSound};
 
     /// `guest create NAME FILE`
     pub(super) fn create<F: Files>(
         &mut self,
         alloc: Global,
+        machine: &mut Machine,
         files: &mut F,
         name: &GuestName,
         file: &FileName,
         printer: &mut Printer,
     ) -> Result<(), LineStop>
-        requires { printer.old ≡ [] }
-        ensures answer { OnOk result ((told : FileMap) (bytes : List ℕ) (taken : ℕ) →
-            StandsFor (F.map files.old) told (is_fetching (world_of self.old bytes)
-            (command.Create name.now file.now)) → IsSound self.old bytes →
-            Gives (create_answer told (world_of self.old bytes) name.now file.now)
-            printer.new (world_of self.new bytes) taken taken) }
-        ensures stopped { OnErr result (self.new ≡ self.old) }
-        ensures empty { OnErr result (printer.new ≡ []) }
-        ensures fetching { OnErr result ((bytes : List ℕ) →
-            is_fetching (world_of self.old bytes) (command.Create name.now file.now) ≡ true) }
-        ensures sound { (bytes : List ℕ) → IsSound self.old bytes → IsSound self.new bytes }
+        requires empty { printer.old ≡ [] }
+        requires sound { IsSound self.old machine.old }
+        ensures answer { OnOk result ((told : FileMap) → StandsFor (F.map files.old) told
+            (is_fetching (world_of self.old machine.old.mem)
+            (command.Create name.now file.now)) →
+            Gives (create_answer told (world_of self.old machine.old.mem) name.now file.now)
+            self.old self.new machine.old machine.new printer.new) }
+        ensures stopped { OnErr result
+            (HasStopped self.old self.new machine.old machine.new printer.new) }
+        ensures fetching { OnErr result (is_fetching (world_of self.old machine.old.mem)
+            (command.Create name.now file.now) ≡ true) }
+        ensures sound { IsSound self.new machine.new }
+        ensures machine { machine.new ≡ record machine.old { mem = machine.new.mem } }
+        ensures size { length machine.new.mem ≡ length machine.old.mem }
         ensures map { F.map files.new ≡ F.map files.old }
         ensures quiet { OnOk result (F.faults files.new ≡ F.faults files.old) }
         ensures cause { IsErrOf result LineStop.FileFault
@@ -62,7 +67,7 @@ impl Manager {
             return Ok(());
         }
         match fetch(alloc, files, file, MOST_TREE, printer) {
-            Ok(Some(bytes)) => self.of_bytes(alloc, name, &bytes, printer),
+            Ok(Some(bytes)) => self.of_bytes(alloc, machine, name, &bytes, printer),
             Ok(None) => Ok(()),
             Err(stop) => Err(stop),
         }
@@ -72,22 +77,26 @@ impl Manager {
     fn of_bytes(
         &mut self,
         alloc: Global,
+        machine: &mut Machine,
         name: &GuestName,
         bytes: &[u8],
         printer: &mut Printer,
     ) -> Result<(), LineStop>
         requires empty { printer.old ≡ [] }
         requires alone { self.old.guest ≡ None }
-        ensures answer { OnOk result ((host : List ℕ) (taken : ℕ) → IsSound self.old host →
-            Gives (tree_answer (world_of self.old host) name.now (tree bytes.now))
-            printer.new (world_of self.new host) taken taken) }
-        ensures stopped { OnErr result (self.new ≡ self.old) }
-        ensures empty { OnErr result (printer.new ≡ []) }
-        ensures want { IsErrOf result LineStop.FileFault → ⊥ }
-        ensures sound { (host : List ℕ) → IsSound self.old host → IsSound self.new host }
+        requires sound { IsSound self.old machine.old }
+        ensures answer { OnOk result (Gives
+            (tree_answer (world_of self.old machine.old.mem) name.now (tree bytes.now))
+            self.old self.new machine.old machine.new printer.new) }
+        ensures stopped { OnErr result
+            (HasStopped self.old self.new machine.old machine.new printer.new) }
+        ensures file { IsErrOf result LineStop.FileFault → ⊥ }
+        ensures sound { IsSound self.new machine.new }
+        ensures machine { machine.new ≡ record machine.old { mem = machine.new.mem } }
+        ensures size { length machine.new.mem ≡ length machine.old.mem }
     {
         match read(alloc, bytes) {
-            Ok(tree) => self.of_tree(alloc, name, &tree, printer),
+            Ok(tree) => self.of_tree(alloc, machine, name, &tree, printer),
             Err(FdtFault::At { kind, offset }) => {
                 refusals::tree(printer, kind, offset);
                 Ok(())
@@ -100,26 +109,28 @@ impl Manager {
     fn of_tree(
         &mut self,
         alloc: Global,
+        machine: &mut Machine,
         name: &GuestName,
         tree: &Tree,
         printer: &mut Printer,
     ) -> Result<(), LineStop>
         requires empty { printer.old ≡ [] }
         requires alone { self.old.guest ≡ None }
+        requires sound { IsSound self.old machine.old }
         requires allowed { IsAllowed tree.now }
-        ensures answer { OnOk result ((host : List ℕ) (taken : ℕ) → IsSound self.old host →
-            Gives (plan_answer (world_of self.old host) name.now (plan tree.now self.old.area))
-            printer.new (world_of self.new host) taken taken) }
-        ensures stopped { OnErr result (self.new ≡ self.old) }
-        ensures empty { OnErr result (printer.new ≡ []) }
-        ensures want { IsErrOf result LineStop.FileFault → ⊥ }
-        ensures sound { (host : List ℕ) → IsSound self.old host → IsSound self.new host }
+        ensures answer { OnOk result (Gives
+            (plan_answer (world_of self.old machine.old.mem) name.now
+            (plan tree.now self.old.host.pool.area))
+            self.old self.new machine.old machine.new printer.new) }
+        ensures stopped { OnErr result
+            (HasStopped self.old self.new machine.old machine.new printer.new) }
+        ensures file { IsErrOf result LineStop.FileFault → ⊥ }
+        ensures sound { IsSound self.new machine.new }
+        ensures machine { machine.new ≡ record machine.old { mem = machine.new.mem } }
+        ensures size { length machine.new.mem ≡ length machine.old.mem }
     {
-        match plan_of(alloc, tree, self.area) {
-            Ok(plan) => {
-                self.of_plan(name, &plan, printer);
-                Ok(())
-            }
+        match plan_of(alloc, tree, machine.area()) {
+            Ok(plan) => self.of_plan(alloc, machine, name, plan, printer),
             Err(PlanFault::At { kind, node }) => {
                 refusals::plan(printer, kind, node);
                 Ok(())
@@ -133,19 +144,34 @@ impl Manager {
     }
 
     /// A guest of that plan, if it is built.
-    fn of_plan(&mut self, name: &GuestName, plan: &Plan, printer: &mut Printer)
+    fn of_plan(
+        &mut self,
+        alloc: Global,
+        machine: &mut Machine,
+        name: &GuestName,
+        plan: Plan,
+        printer: &mut Printer,
+    ) -> Result<(), LineStop>
         requires empty { printer.old ≡ [] }
         requires alone { self.old.guest ≡ None }
-        requires accepted { Accepted plan.now.regions }
-        requires starts { All (λ vcpu. IsInstructionAddress vcpu.start) plan.now.vcpus }
-        ensures answer { (host : List ℕ) (taken : ℕ) → IsSound self.old host →
-            Gives (plan_answer (world_of self.old host) name.now (Ok plan.now))
-            printer.new (world_of self.new host) taken taken }
-        ensures sound { (host : List ℕ) → IsSound self.old host → IsSound self.new host }
+        requires sound { IsSound self.old machine.old }
+        requires regions { IsTrue (are_sound plan.regions) }
+        requires faultless { first_fault machine.old.area plan.regions ≡ None }
+        requires starts { All (λ vcpu. IsInstructionAddress vcpu.start) plan.vcpus }
+        ensures answer { OnOk result (Gives
+            (plan_answer (world_of self.old machine.old.mem) name.now (Ok plan))
+            self.old self.new machine.old machine.new printer.new) }
+        ensures stopped { OnErr result
+            (HasStopped self.old self.new machine.old machine.new printer.new) }
+        ensures file { IsErrOf result LineStop.FileFault → ⊥ }
+        ensures sound { IsSound self.new machine.new }
+        ensures machine { machine.new ≡ record machine.old { mem = machine.new.mem } }
+        ensures size { length machine.new.mem ≡ length machine.old.mem }
     {
-        match BuiltPlan::of(plan) {
-            Some(built) => self.admit(name, &built, printer),
-            None => refusals::refused(printer, b"unbuilt"),
+        if !is_built(&plan) {
+            refusals::refused(printer, b"unbuilt");
+            return Ok(());
         }
+        self.admit(alloc, machine, name, plan, printer)
     }
 }

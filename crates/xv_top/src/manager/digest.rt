@@ -1,9 +1,8 @@
 //! `guest digest`
-ghost use Rattle.std.specs.Prelude.{◌≡◌, ℕ, List, []};
+ghost use Rattle.std.specs.Prelude.{◌≡◌, []};
 
 use super::Manager;
 use crate::report;
-use sha2::{Digest, Sha256};
 use xv_base::GuestName;
 use xv_hart::Machine;
 use xv_print::Printer;
@@ -16,15 +15,15 @@ impl Manager {
     /// `guest digest NAME`
     pub(super) fn digest(&self, machine: &Machine, name: &GuestName, printer: &mut Printer)
         requires empty { printer.old ≡ [] }
-        requires sound { IsSound self.now machine.now.mem }
-        ensures { (taken : ℕ) → Gives (digest_guest (world_of self.now machine.now.mem) name.now
-            (guest_named name.now (world_of self.now machine.now.mem)))
-            printer.new (world_of self.now machine.now.mem) taken taken }
+        requires sound { IsSound self.now machine.now }
+        ensures { let w = world_of self.now machine.now.mem in
+            Gives (digest_guest w name.now (guest_named name.now w))
+            self.now self.now machine.now machine.now printer.new }
     {
-        let Some(guest) = self.there(name, printer) else {
+        let Some(key) = self.there(name, printer) else {
             return;
         };
-        let digest = Sha256::digest(guest.contents(&machine.mem));
+        let digest = self.host.digest(machine, key);
         report::digest(printer, name.bytes(), &digest);
     }
 }

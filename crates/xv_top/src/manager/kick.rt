@@ -1,39 +1,33 @@
 //! `guest kick`
-ghost use Rattle.std.specs.Prelude.{◌≡◌, ℕ, List, [], length, true};
+ghost use Rattle.std.specs.Prelude.{◌≡◌, []};
 
 use super::Manager;
-use super::stand::stand;
-use crate::report;
+use crate::{refusals, report};
 use xv_base::GuestName;
-use xv_hart::Machine;
+use xv_host::Change;
 use xv_print::Printer;
 
 impl Manager {
     ghost use Rattle.xv_top.specs.Commands.{kick_guest};
-    ghost use Rattle.xv_top.specs.Manager.{world_of, Gives, KeepsButTables, IsSound};
+    ghost use Rattle.xv_top.specs.Manager.{world_of, Gives, HasGuests, IsSound};
     ghost use Rattle.xv_top.specs.World.{guest_named};
+    ghost use Rattle.xv_hart.specs.declared.machine.Machine.{Machine};
 
     /// `guest kick NAME`
-    pub(super) fn kick(&mut self, machine: &mut Machine, name: &GuestName, printer: &mut Printer)
+    pub(super) fn kick(&mut self, name: &GuestName, printer: &mut Printer)
         requires empty { printer.old ≡ [] }
-        requires sound { IsSound self.old machine.old.mem }
-        ensures answer { (taken : ℕ) → Gives (kick_guest (world_of self.old machine.old.mem)
-            name.now (guest_named name.now (world_of self.old machine.old.mem)))
-            printer.new (world_of self.new machine.new.mem) taken taken }
-        ensures keeps { KeepsButTables (kick_guest (world_of self.old machine.old.mem)
-            name.now (guest_named name.now (world_of self.old machine.old.mem)))
-            self.old machine.old.mem machine.new.mem }
-        ensures sound { IsSound self.new machine.new.mem }
-        ensures size { length machine.new.mem ≡ length machine.old.mem }
-        ensures hart { machine.new.hart ≡ machine.old.hart }
-        ensures area { machine.new.area ≡ machine.old.area }
+        requires guests { HasGuests self.old.guest self.old.host.guests }
+        ensures answer { (machine : Machine) → let w = world_of self.old machine.mem in
+            Gives (kick_guest w name.now (guest_named name.now w))
+            self.old self.new machine machine printer.new }
+        ensures sound { (machine : Machine) → IsSound self.old machine → IsSound self.new machine }
     {
-        let Some(mut guest) = self.at_reset(name, printer) else {
+        let Some(key) = self.there(name, printer) else {
             return;
         };
-        stand(&mut machine.mem, &guest, &mut self.map, &self.frames);
-        guest.kick();
-        self.guest = Some(guest);
+        let Ok(()) = self.host.change(key, Change::Kick) else {
+            return refusals::refused(printer, b"state");
+        };
         report::kicked(printer, name.bytes());
     }
 }

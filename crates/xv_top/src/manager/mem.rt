@@ -1,5 +1,5 @@
 //! `guest mem`
-ghost use Rattle.std.specs.Prelude.{◌≡◌, ℕ, ◌≤◌, List, []};
+ghost use Rattle.std.specs.Prelude.{◌≡◌, ◌≤◌, []};
 ghost use Rattle.xv_script.specs.Command.{most_shown};
 
 use super::Manager;
@@ -7,6 +7,9 @@ use crate::{refusals, report};
 use xv_base::GuestName;
 use xv_hart::Machine;
 use xv_print::Printer;
+
+/// The most bytes that one line shows.
+const MOST_SHOWN: usize = 4096;
 
 impl Manager {
     ghost use Rattle.xv_top.specs.Contents.{mem_guest};
@@ -24,17 +27,19 @@ impl Manager {
     )
         requires empty { printer.old ≡ [] }
         requires few { len ≤ most_shown }
-        requires sound { IsSound self.now machine.now.mem }
-        ensures { (taken : ℕ) → Gives (mem_guest (world_of self.now machine.now.mem) name.now gpa
-            len (guest_named name.now (world_of self.now machine.now.mem)))
-            printer.new (world_of self.now machine.now.mem) taken taken }
+        requires sound { IsSound self.now machine.now }
+        ensures { let w = world_of self.now machine.now.mem in
+            Gives (mem_guest w name.now gpa len (guest_named name.now w))
+            self.now self.now machine.now machine.now printer.new }
     {
-        let Some(guest) = self.there(name, printer) else {
+        let Some(key) = self.there(name, printer) else {
             return;
         };
-        let Some(bytes) = guest.peek(&machine.mem, gpa, len as usize) else {
+        let mut shown = [0; MOST_SHOWN];
+        let front = &mut shown[..len as usize];
+        let Ok(()) = self.host.peek(machine, key, gpa, front) else {
             return refusals::refused(printer, b"outside");
         };
-        report::mem(printer, name.bytes(), gpa, bytes);
+        report::mem(printer, name.bytes(), gpa, front);
     }
 }

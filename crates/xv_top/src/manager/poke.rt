@@ -1,5 +1,5 @@
 //! `guest poke`
-ghost use Rattle.std.specs.Prelude.{◌≡◌, ℕ, List, [], length};
+ghost use Rattle.std.specs.Prelude.{◌≡◌, [], length};
 
 use super::Manager;
 use crate::report;
@@ -9,12 +9,12 @@ use xv_print::Printer;
 
 impl Manager {
     ghost use Rattle.xv_top.specs.Contents.{poke_guest};
-    ghost use Rattle.xv_top.specs.Manager.{world_of, Gives, Keeps, IsSound};
+    ghost use Rattle.xv_top.specs.Manager.{world_of, Gives, IsSound};
     ghost use Rattle.xv_top.specs.World.{guest_named};
 
     /// `guest poke NAME GPA HEX`
     pub(super) fn poke(
-        &self,
+        &mut self,
         machine: &mut Machine,
         name: &GuestName,
         gpa: u64,
@@ -22,22 +22,18 @@ impl Manager {
         printer: &mut Printer,
     )
         requires empty { printer.old ≡ [] }
-        requires sound { IsSound self.now machine.old.mem }
-        ensures answer { (taken : ℕ) → Gives (poke_guest (world_of self.now machine.old.mem)
-            name.now gpa bytes.now (guest_named name.now (world_of self.now machine.old.mem)))
-            printer.new (world_of self.now machine.new.mem) taken taken }
-        ensures keeps { Keeps (poke_guest (world_of self.now machine.old.mem)
-            name.now gpa bytes.now (guest_named name.now (world_of self.now machine.old.mem)))
-            self.now machine.old.mem machine.new.mem }
-        ensures sound { IsSound self.now machine.new.mem }
+        requires sound { IsSound self.old machine.old }
+        ensures answer { let w = world_of self.old machine.old.mem in
+            Gives (poke_guest w name.now gpa bytes.now (guest_named name.now w))
+            self.old self.new machine.old machine.new printer.new }
+        ensures sound { IsSound self.new machine.new }
+        ensures machine { machine.new ≡ record machine.old { mem = machine.new.mem } }
         ensures size { length machine.new.mem ≡ length machine.old.mem }
-        ensures hart { machine.new.hart ≡ machine.old.hart }
-        ensures area { machine.new.area ≡ machine.old.area }
     {
-        let Some(guest) = self.at_reset(name, printer) else {
+        let Some(key) = self.at_reset(name, printer) else {
             return;
         };
-        if self.put(machine, name, &guest, gpa, bytes, printer) {
+        if self.put(machine, name, key, gpa, bytes, printer) {
             report::poked(printer, name.bytes(), bytes.len() as u64);
         }
     }

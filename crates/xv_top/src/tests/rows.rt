@@ -71,7 +71,22 @@ const EMPTY: FileOf = FileOf {
     fills: &[],
 };
 
-pub static ROWS: [Row; 29] = [
+const ROM_TREE: FileOf = FileOf {
+    name: b"t",
+    base: Base::Payload,
+    len: 1171,
+    fills: &[NO_VCPU1, NO_VIRTUAL, NO_ALIAS, NO_PART],
+};
+
+const ALIAS_TREE: FileOf = FileOf {
+    name: b"t",
+    base: Base::Payload,
+    len: 1171,
+    fills: &[NO_VCPU1, NO_VIRTUAL, NO_PART],
+};
+
+// A function that has a table is proved in time that grows faster than the table, so there are two.
+pub static ROWS: [Row; 15] = [
     Row {
         message: "the first script",
         script: b"guest flat a 4
@@ -199,7 +214,7 @@ x4=0000000000000000 x5=0000000000000000 x6=0000000000000000 x7=0000000000000000
 tick 1
 guest list
 guest pause a
-guest audit a
+guest reset a
 vserial dump a/u
 vserial list
 ",
@@ -303,6 +318,103 @@ refused state
         ],
         ..PLAIN
     },
+    Row {
+        message: "memory of a flat guest and its audit",
+        script: b"guest flat a 4
+guest poke a 0x80000000 930270001383f2ffb38362006f000000
+guest mem a 0x80000000 16
+guest audit a
+guest kick a
+guest audit a
+guest audit b
+",
+        transcript: &[
+            b"created a vcpus 1 regions 1 frames 6
+poked a 16
+mem a 0000000080000000 930270001383f2ffb38362006f000000
+audit a 4
+kicked a
+audit a 4
+refused guest
+",
+        ],
+        ..PLAIN
+    },
+    Row {
+        message: "one frame more than there are, and as many as there are",
+        script: b"guest flat a 16288
+guest flat a 16287
+guest flat b 1
+",
+        transcript: &[
+            b"refused frames need 16321 free 16320
+created a vcpus 1 regions 1 frames 16320
+refused unbuilt
+",
+        ],
+        ..PLAIN
+    },
+    Row {
+        message: "a store into a ROM",
+        script: b"guest create a t
+guest poke a 0x80000000 970200009382020173905210233000006f000000
+guest audit a
+guest kick a
+run 1
+guest regs a 0
+",
+        files: &[ROM_TREE],
+        transcript: &[
+            b"created a vcpus 1 regions 2 frames 2071
+poked a 20
+audit a 2064
+kicked a
+ran 1 idle 0 now 100
+regs a 0 started S pc=0000000080000010
+x0=0000000000000000 x1=0000000000000000 x2=0000000000000000 x3=0000000000000000
+x4=0000000000000000 x5=0000000080000010 x6=0000000000000000 x7=0000000000000000
+x8=0000000000000000 x9=0000000000000000 x10=0000000000000000 x11=0000000000000000
+x12=0000000000000000 x13=0000000000000000 x14=0000000000000000 x15=0000000000000000
+x16=0000000000000000 x17=0000000000000000 x18=0000000000000000 x19=0000000000000000
+x20=0000000000000000 x21=0000000000000000 x22=0000000000000000 x23=0000000000000000
+x24=0000000000000000 x25=0000000000000000 x26=0000000000000000 x27=0000000000000000
+x28=0000000000000000 x29=0000000000000000 x30=0000000000000000 x31=0000000000000000
+sstatus=0000000200000100 sie=0000000000000000 ssip=0000000000000000 stvec=0000000080000010
+sscratch=0000000000000000 sepc=000000008000000c scause=0000000000000007 stval=0000000000000000
+satp=0000000000000000 scounteren=0000000000000000 senvcfg=0000000000000000 timer=ffffffffffffffff
+",
+        ],
+        ..PLAIN
+    },
+    Row {
+        message: "an alias of memory, and a reservation by the one address that is kept by the other",
+        script: b"guest create a t
+guest poke a 0x90000000 0123456789abcdef
+guest mem a 0x80001000 8
+guest audit a
+guest poke a 0x80000000 97120000170300101303c3ffafb302102f3453181304140023b882006f000000
+guest kick a
+run 1
+guest mem a 0x80001000 24
+",
+        files: &[ALIAS_TREE],
+        transcript: &[
+            b"created a vcpus 1 regions 3 frames 2072
+poked a 8
+mem a 0000000080001000 0123456789abcdef
+audit a 2066
+poked a 32
+kicked a
+ran 1 idle 0 now 100
+mem a 0000000080001000 001000800000000000000000000000000100000000000000
+",
+        ],
+        ..PLAIN
+    },
+];
+
+// Faults of the files, the source and the sink, and scripts that are refused.
+pub static FAULT_ROWS: [Row; 18] = [
     Row {
         message: "the first fetch fails",
         script: b"guest flat a 1\nguest load a 0x80000000 i\nguest digest a\n",
@@ -442,7 +554,7 @@ refused state
 /// A tree that one `guest create` names: what it is, what the line answers, and the file.
 pub type TreeRow = (&'static str, &'static [u8], Base, usize, &'static [Fill]);
 
-pub static TREES: [TreeRow; 21] = [
+pub static TREES: [TreeRow; 22] = [
     (
         "the least tree",
         b"refused plan aspace 0\n",
@@ -595,9 +707,16 @@ pub static TREES: [TreeRow; 21] = [
     ),
     (
         "one VCPU and a ROM",
-        b"refused unbuilt\n",
+        b"created a vcpus 1 regions 2 frames 2071\n",
         Base::Payload,
         1171,
         &[NO_VCPU1, NO_VIRTUAL, NO_ALIAS, NO_PART],
+    ),
+    (
+        "one VCPU, a ROM and an alias",
+        b"created a vcpus 1 regions 3 frames 2072\n",
+        Base::Payload,
+        1171,
+        &[NO_VCPU1, NO_VIRTUAL, NO_PART],
     ),
 ];

@@ -1,10 +1,18 @@
-use Rattle.std.proofs.Common.{◌∙◌, ◌+◌, [], drop, take, refl, sym, ap, subst, arith}
+use Rattle.std.proofs.Common.{◌≡◌, ◌∙◌, ◌+◌, [], drop, take, Err, IsErrOf, refl, sym, ap}
+use Rattle.std.proofs.Common.{subst, arith}
 use Rattle.xv_hart.specs.Hart.{taken_by}
-use Rattle.xv_top.specs.Manager.{world_of}
+use Rattle.xv_top.specs.declared.stop.LineStop.{LineStop}
+use Rattle.xv_top.specs.declared.stop.Stop.TheVariants.{InLine}
+use Rattle.xv_top.specs.Manager.{may_stop, world_of}
 use Rattle.xv_top.specs.Run.{HaveRun}
 use Rattle.xv_top.proofs.FetchLemmas.{stands_also, stands_behind, stands_before, stands_at}
 use Rattle.xv_top.proofs.FoldLemmas.{run_none, run_more, run_cut, run_stops, whole}
 use Rattle.xv_top.proofs.program.run_all.Goals as goal
+
+-- the stop of a line
+in_line : (one stop : LineStop) → IsErrOf {T = Unit {0}} (Err (InLine one)) (InLine stop)
+    → IsErrOf {T = Unit {0}} (Err one) stop
+in_line one stop is = let same : one ≡ stop = cc in ap Err same
 
 pub loop-line-init : goal.loop-line-init
 loop-line-init g c =
@@ -74,7 +82,8 @@ returns-in-Err-clause-stopped g c stop ended =
           l c.line-item.is first now after (g.K.Sink.taken c.args.sink.now)
           (g.K.Sink.taken c.loop-line.sink) (g.K.Sink.taken c.loop-line.sink)
           (taken_by c.loop-line.machine.hart) (taken_by c.apply.new.machine.hart)
-          (inv.run told is) c.in-Err.ensures.fetching
+          (inv.run told is) (may_stop stop)
+          (c.in-Err.ensures.may stop (in_line c.in-Err.stop stop ended))
           (ap (λ m. world_of m c.apply.new.machine.mem) stopped.manager
           ∙ ap (world_of c.loop-line.manager) stopped.memory) stopped.taken refl;
     }

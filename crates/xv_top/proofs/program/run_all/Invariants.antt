@@ -15,7 +15,7 @@ invariant-loop-line g l = record {
       HaveRun told (take l.line-index l.lines) (world_of l.fn.manager l.fn.machine.mem)
       (world_of l.manager l.machine.mem) (g.K.Sink.taken l.fn.sink) (g.K.Sink.taken l.sink)
       (taken_by l.machine.hart);
-  sound : IsSound l.manager l.machine.mem;
+  sound : IsSound l.manager l.machine;
   fit : IsFit l.machine;
   size : length l.machine.mem ≡ length l.fn.machine.mem;
   area : l.machine.area ≡ l.fn.machine.area;

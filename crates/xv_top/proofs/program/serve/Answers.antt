@@ -3,6 +3,7 @@ use Rattle.std.proofs.lemmas.List.{length-replicate}
 use Rattle.std.proofs.lemmas.Result.{on_ok_weaker}
 use Rattle.xv_top.specs.Boot.{IsTextOf}
 use Rattle.xv_top.specs.Layout.{memory_size}
+use Rattle.xv_top.specs.Manager.{may_stop}
 use Rattle.xv_top.proofs.BootLemmas.{run_is, refused_is, stopped_is, cut_is}
 use Rattle.xv_top.proofs.program.serve.Goals as goal
 
@@ -45,7 +46,7 @@ returns-in-Ok-read_script-clause-stopped g c stop ended =
     let told = subst (IsTextOf left) (sym c.deref.ensures.value) c.in-Ok-read_script.ensures.text in
     stopped_is c.args.mib left (g.S.Source.left c.read_script.new.source)
     (g.K.Sink.taken c.args.sink.now) (g.K.Sink.taken c.run_script.new.sink) c.deref.result.now
-    told c.run_script.new.machine (g.F.Files.map c.args.files.now)
+    told c.run_script.new.machine (may_stop stop) (g.F.Files.map c.args.files.now)
     (c.run_script.ensures.stopped c.args.mib stop (ap length c.in-Ok.ensures.memory
     ∙ length-replicate (memory_size c.args.mib) 0)
     c.in-Ok.ensures.area ended)

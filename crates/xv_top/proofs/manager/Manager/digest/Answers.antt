@@ -1,7 +1,40 @@
-use Rattle.xv_top.proofs.StandLemmas.{laid_there}
+use Rattle.std.proofs.Common.{◌∙◌, List, ℕ, refl, ap}
+use Rattle.std.specs.List.{concat}
+use Rattle.sha2.specs.Sha256.{sha256}
+use Rattle.xv_top.specs.Answer.{Answer, says}
+use Rattle.xv_top.specs.Manager.{world_of}
+use Rattle.xv_top.specs.Texts.{digest_text}
+use Rattle.xv_top.specs.World.{LiveGuest}
+use Rattle.xv_top.proofs.HostLemmas.{alone_named, guest_there}
+use Rattle.xv_top.proofs.ManagerLemmas.{gives_text, name_short}
 use Rattle.xv_top.proofs.manager.Manager.digest.Goals as goal
 
-pub contents-requires : goal.contents-requires
-contents-requires c =
-    laid_there c.args.self.now c.in-Some.guest c.args.machine.now.mem c.in-Some.ensures.guest.0
-    c.requires.sound
+pub digest-requires-clause-short : goal.digest-requires-clause-short
+digest-requires-clause-short c =
+    name_short c.args.name.now c.bytes.result.now c.bytes.ensures.value c.bytes.ensures.grammar
+
+pub returns-in_default : goal.returns-in_default
+returns-in_default c =
+    let m = c.args.self.now in
+    let machine = c.args.machine.now in
+    let w = world_of m machine.mem in
+    let next : LiveGuest → Answer =
+    λ l. says w (digest_text c.args.name.now (sha256 (concat l.machine.memory))) in
+    gives_text _ m machine _ c.there.new.printer
+    (c.in_default.ensures.refused refl machine.mem next) refl
+
+pub returns : goal.returns
+returns c =
+    let m = c.args.self.now in
+    let machine = c.args.machine.now in
+    let name = c.args.name.now in
+    let w = world_of m machine.mem in
+    let alone = alone_named m.guest m.host.guests name c.in-Some.key c.requires.sound.guests
+    c.in-Some.ensures.named in
+    let at = guest_there m.host.guests c.in-Some.key alone in
+    let next : LiveGuest → Answer =
+    λ l. says w (digest_text name (sha256 (concat l.machine.memory))) in
+    gives_text _ m machine _ _ (c.in-Some.ensures.next alone.guest at machine.mem next)
+    (c.digest.ensures
+    ∙ (ap (λ (n : List ℕ). digest_text n c.digest-digest.result) c.bytes.ensures.value
+    ∙ ap (digest_text name) (c.digest-digest.ensures.digest alone.guest at)))

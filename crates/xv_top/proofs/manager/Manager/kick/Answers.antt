@@ -1,111 +1,82 @@
-use Rattle.std.proofs.Common.{◌∙◌, ℕ, List, [], ◌∷◌, length, Some, subst, refl, sym}
-use Rattle.std.proofs.Common.{ap, arith}
-use Rattle.xv_pool.specs.FrameList.{up_from}
-use Rattle.xv_lone.specs.declared.vcpu.GuestState.TheVariants.{Running}
-use Rattle.xv_lone.specs.Journal as change
-use Rattle.xv_lone.specs.Vcpu.{kicked_vcpu}
-use Rattle.xv_top.specs.declared.guest.Guest.{Guest}
-use Rattle.xv_top.specs.Answer.{Answer, changes}
-use Rattle.xv_top.specs.Guest.{lone_of}
-use Rattle.xv_top.specs.Layout.{root_frames}
-use Rattle.xv_top.specs.Manager.{live_guest, world_of, GuestIsSound, SameByKick}
-use Rattle.xv_top.specs.Texts.{kicked_text}
-use Rattle.xv_gstage.proofs.OwnLemmas.{length-up}
-use Rattle.xv_top.proofs.ManagerLemmas.{gives_by, change_one, changes_all}
-use Rattle.xv_top.proofs.StandLemmas.{laid_there, zero_there, stands_there, sound_next}
-use Rattle.xv_top.proofs.StandLemmas.{stands_kicked, memory_kept, kick_same}
+use Rattle.std.proofs.Common.{◌≡◌, ◌∙◌, refl, ap, codes}
+use Rattle.std.proofs.lemmas.Bool.{cond-true, cond-false}
+use Rattle.xv_lone.specs.declared.vcpu.GuestState.{GuestState}
+use Rattle.xv_lone.specs.declared.vcpu.GuestState.TheVariants.{Reset, Running, Paused, Halted}
+use Rattle.xv_lone.specs.Journal as journal
+use Rattle.xv_lone.specs.Ready.{is_reset}
+use Rattle.xv_host.specs.Lifecycle.{is_allowed}
+use Rattle.xv_host.specs.declared.lifecycle.Change.TheVariants.{Kick}
+use Rattle.xv_top.specs.Answer.{Answer, changes, if_reset}
+use Rattle.xv_top.specs.Manager.{world_of}
+use Rattle.xv_top.specs.Texts.{kicked_text, refused_text}
+use Rattle.xv_top.specs.World.{LiveGuest}
+use Rattle.xv_top.proofs.HostLemmas.{alone_named, guest_there, change_world, change_sound}
+use Rattle.xv_top.proofs.ManagerLemmas.{gives_by, gives_text, gives_same, gives_change}
+use Rattle.xv_top.proofs.ManagerLemmas.{name_short}
 use Rattle.xv_top.proofs.manager.Manager.kick.Goals as goal
 
-pub stand-requires-clause-laid : goal.stand-requires-clause-laid
-stand-requires-clause-laid c =
-    laid_there c.args.self.now c.in-Some.guest c.args.machine.now.mem c.in-Some.ensures.guest.0
-    c.requires.sound
+-- a guest is kicked in its reset state alone
+kick_allowed : (s : GuestState) → is_reset s ≡ is_allowed Kick s
+kick_allowed Reset = refl
+kick_allowed Running = refl
+kick_allowed Paused = refl
+kick_allowed (Halted ending) = refl
 
-pub stand-requires-clause-zeros : goal.stand-requires-clause-zeros
-stand-requires-clause-zeros c =
-    zero_there c.args.self.now c.in-Some.guest c.args.machine.now.mem c.in-Some.ensures.guest.0
-    c.requires.sound c.in-Some.ensures.reset
+pub kicked-requires-clause-short : goal.kicked-requires-clause-short
+kicked-requires-clause-short c =
+    name_short c.args.name.now c.bytes.result.now c.bytes.ensures.value c.bytes.ensures.grammar
 
-pub stand-requires-clause-accepted : goal.stand-requires-clause-accepted
-stand-requires-clause-accepted c =
-    (stands_there c.args.self.now c.in-Some.guest c.args.machine.now.mem
-    c.in-Some.ensures.guest.0 c.requires.sound).accepted
+pub returns-in_default-clause-answer : goal.returns-in_default-clause-answer
+returns-in_default-clause-answer c machine =
+    let m = c.args.self.now in
+    let w = world_of m machine.mem in
+    let name = c.args.name.now in
+    gives_text _ m machine _ c.there.new.printer
+    (c.in_default.ensures.refused refl machine.mem
+    (if_reset w (λ _. changes w name journal.Kick (kicked_text name)))) refl
 
-pub stand-requires-clause-frames : goal.stand-requires-clause-frames
-stand-requires-clause-frames c =
-    let are = c.deref.ensures.value ∙ c.requires.sound.frames in
-    are ∙ ap (up_from root_frames) (sym (ap length are
-    ∙ length-up root_frames c.args.self.now.pool))
-
-pub stand-requires-clause-enough : goal.stand-requires-clause-enough
-stand-requires-clause-enough c =
-    let stands = stands_there c.args.self.now c.in-Some.guest c.args.machine.now.mem
-    c.in-Some.ensures.guest.0 c.requires.sound in
-    let count = ap length (c.deref.ensures.value ∙ c.requires.sound.frames)
-    ∙ length-up root_frames c.args.self.now.pool in
-    omega (arith, stands.enough, count)
-
-pub stand-requires-clause-inside : goal.stand-requires-clause-inside
-stand-requires-clause-inside c =
-    let count = ap length (c.deref.ensures.value ∙ c.requires.sound.frames)
-    ∙ length-up root_frames c.args.self.now.pool in
-    omega (arith, c.requires.sound.pool, count)
+pub returns-in_default-change-clause-answer : goal.returns-in_default-change-clause-answer
+returns-in_default-change-clause-answer c machine =
+    let m = c.args.self.now in
+    let w = world_of m machine.mem in
+    let name = c.args.name.now in
+    let kick : LiveGuest → Answer = λ _. changes w name journal.Kick (kicked_text name) in
+    let alone = alone_named m.guest m.host.guests name c.in-Some.key c.requires.guests
+    c.in-Some.ensures.named in
+    let g = alone.guest in
+    let at = guest_there m.host.guests c.in-Some.key alone in
+    let bad = c.in_default-change.ensures.refused g at in
+    gives_same _ m c.change.new.self machine machine _ c.in_default-change.ensures.unchanged refl
+    (gives_text _ m machine _ (refused_text (codes "state"))
+    (c.in-Some.ensures.next g at machine.mem (if_reset w kick)
+    ∙ cond-false (is_reset g.state) _ _ (kick_allowed g.state ∙ bad.1)) c.refused.ensures)
 
 pub returns-clause-answer : goal.returns-clause-answer
-returns-clause-answer c taken =
+returns-clause-answer c machine =
     let m = c.args.self.now in
-    let g = c.in-Some.guest in
-    let bytes = c.args.machine.now.mem in
-    let now = c.stand.new.mem in
+    let w = world_of m machine.mem in
     let name = c.args.name.now in
-    let w = world_of m bytes in
-    let kicked : Guest = record g { view = kicked_vcpu g.view; state = Running } in
-    let kept = memory_kept g bytes now (laid_there m g bytes c.in-Some.ensures.guest.0
-    c.requires.sound).pages c.stand.ensures.rest in
-    gives_by _ (changes w name change.Kick (kicked_text name))
-    (c.in-Some.ensures.next bytes (λ _. changes w name change.Kick (kicked_text name)))
-    (record {
-      text = c.kicked.ensures ∙ ap kicked_text c.bytes.ensures.value;
-      world = ap (λ h. world_of (record m { guest = Some h }) now) c.kick.ensures
-          ∙ change_one m g kicked bytes now name change.Kick c.in-Some.ensures.guest.0
-          c.in-Some.ensures.guest.1
-          (ap (λ (memory : List ℕ). record (live_guest kicked bytes) {
-            machine = record (lone_of kicked bytes) { memory = memory ∷ [] };
-          }) kept);
-      work = omega arith;
-    })
-
-pub returns-clause-keeps : goal.returns-clause-keeps
-returns-clause-keeps c =
-    let m = c.args.self.now in
-    let g = c.in-Some.guest in
-    let bytes = c.args.machine.now.mem in
-    let now = c.stand.new.mem in
-    let name = c.args.name.now in
-    let w = world_of m bytes in
-    record {
-      outside = subst (λ o. SameByKick o bytes now) (sym c.in-Some.ensures.guest.0)
-          c.stand.ensures.rest;
-      all = λ none. absurd (changes_all w name change.Kick (kicked_text name)
-          (sym (ap (λ (a : Answer). a.entries) (c.in-Some.ensures.next bytes
-          (λ _. changes w name change.Kick (kicked_text name)))) ∙ none));
-    }
+    let kick : LiveGuest → Answer = λ _. changes w name journal.Kick (kicked_text name) in
+    let alone = alone_named m.guest m.host.guests name c.in-Some.key c.requires.guests
+    c.in-Some.ensures.named in
+    let g = alone.guest in
+    let at = guest_there m.host.guests c.in-Some.key alone in
+    let reset = kick_allowed g.state ∙ c.in-Ok.ensures.allowed g at in
+    gives_by _ (changes w name journal.Kick (kicked_text name))
+    (c.in-Some.ensures.next g at machine.mem (if_reset w kick)
+    ∙ cond-true (is_reset g.state) _ _ reset)
+    (gives_change m _ machine machine name journal.Kick _ (kicked_text name)
+    (c.kicked.ensures ∙ ap kicked_text c.bytes.ensures.value)
+    (change_world m c.change.new.self name c.in-Some.key c.in-Some.ensures.named alone journal.Kick
+    machine.mem machine.mem g at ((c.in-Ok.ensures.changed machine.mem).guest g at)) refl)
 
 pub returns-clause-sound : goal.returns-clause-sound
-returns-clause-sound c =
+returns-clause-sound c machine sound =
     let m = c.args.self.now in
-    let g = c.in-Some.guest in
-    let bytes = c.args.machine.now.mem in
-    let now = c.stand.new.mem in
-    let stands = stands_kicked g m.pool bytes now
-    (stands_there m g bytes c.in-Some.ensures.guest.0 c.requires.sound)
-    c.stand.ensures.rest c.stand.ensures.behind in
-    sound_next m (record m { guest = Some c.kick.new.self; map = c.stand.new.map }) bytes now
-    refl refl c.stand.ensures.one c.requires.sound.turns c.stand.ensures.rest.size
-    (subst (λ o. GuestIsSound (Some o) m.pool now) (sym c.kick.ensures) stands) c.requires.sound
-
-pub returns-in_default-clause-keeps : goal.returns-in_default-clause-keeps
-returns-in_default-clause-keeps c = record {
-  outside = kick_same c.args.self.now.guest c.args.machine.now.mem;
-  all = λ none. refl;
-}
+    let name = c.args.name.now in
+    let alone = alone_named m.guest m.host.guests name c.in-Some.key c.requires.guests
+    c.in-Some.ensures.named in
+    let at = guest_there m.host.guests c.in-Some.key alone in
+    change_sound m c.change.new.self name c.in-Some.key journal.Kick machine machine alone.guest
+    c.in-Some.ensures.named at ((c.in-Ok.ensures.changed machine.mem).guest alone.guest at) refl
+    (c.change.ensures.hosted machine.mem sound.hosted) sound

@@ -1,8 +1,6 @@
-use Rattle.std.proofs.Common.{◌≡◌, ◌∙◌, ◌+◌, subst, refl, sym, ap, arith}
+use Rattle.std.proofs.Common.{◌≡◌, ◌∙◌, ◌+◌, ℕ, subst, refl, sym, ap, arith}
 use Rattle.xv_hart.specs.Hart.{taken_by}
-use Rattle.xv_top.specs.Guest.{SameElsewhere}
-use Rattle.xv_top.specs.Manager.{world_of, memory_end, idle_of}
-use Rattle.xv_top.proofs.GuestLemmas.{same_elsewhere, elsewhere_both}
+use Rattle.xv_top.specs.Manager.{world_of, idle_of}
 use Rattle.xv_top.proofs.RunLemmas.{IsKept, turns_start, kept_goes_on, turns_end, entries_end}
 use Rattle.xv_top.proofs.RunLemmas.{idle_few}
 use Rattle.xv_top.proofs.manager.Manager.make_turns.Goals as goal
@@ -13,14 +11,12 @@ loop-made-init g c = record {
   going = record {
     so_far = turns_start c.args.turns
         (world_of c.args.self.now c.args.machine.now.mem) (taken_by c.args.machine.now.hart);
-    all = λ none. refl;
+    all = λ none. (refl, refl);
   };
   sound = c.requires.sound;
   fit = c.requires.fit;
   size = refl;
   area = refl;
-  end = refl;
-  outside = same_elsewhere (memory_end c.args.self.now.guest) c.args.machine.now.mem;
   turns = omega arith;
   few = omega arith;
   idle = omega arith;
@@ -45,21 +41,17 @@ loop-made-preserved g c =
     let on = kept_goes_on c.args.turns c.loop-made._made first now after before
     (taken_by c.args.machine.now.hart) (taken_by c.loop-made.machine.hart)
     (taken_by c.turn.new.machine.hart)
-    bytes c.loop-made.machine.mem c.turn.new.machine.mem c.loop-made-test.true inv.going
+    bytes c.loop-made.machine.mem c.turn.new.machine.mem c.args.self.now.host c.loop-made.self.host
+    c.turn.new.self.host c.loop-made-test.true inv.going
     c.turn.result (turn.turn before so_far.work so_far.entries) turn.taken turn.kept in
     record {
-      going = subst (λ i. IsKept c.args.turns (c.loop-made._made + 1) first after i
+      going = subst (λ (i : ℕ). IsKept c.args.turns (c.loop-made._made + 1) first after i
           (taken_by c.args.machine.now.hart) (taken_by c.turn.new.machine.hart) bytes
-          c.turn.new.machine.mem) (sym idled) on;
+          c.turn.new.machine.mem c.args.self.now.host c.turn.new.self.host) (sym idled) on;
       sound = turn.sound;
       fit = turn.fit;
       size = turn.size ∙ inv.size;
       area = turn.area ∙ inv.area;
-      end = turn.end ∙ inv.end;
-      outside = elsewhere_both (memory_end c.args.self.now.guest) bytes c.loop-made.machine.mem
-          c.turn.new.machine.mem inv.outside
-          (subst (λ end. SameElsewhere end c.loop-made.machine.mem c.turn.new.machine.mem) inv.end
-          turn.outside);
       turns = omega (arith, turn.turns, inv.turns);
       few = omega (arith, turn.few, inv.few);
       idle = omega (arith, idled, idle_few c.turn.result, inv.idle);
@@ -72,16 +64,13 @@ returns-clause-end g c =
     (taken_by c.args.machine.now.hart) (taken_by c.loop-made.machine.hart)
     c.loop-made-test.false c.loop-made.invariant.going.so_far
 
-pub returns-clause-keeps : goal.returns-clause-keeps
-returns-clause-keeps g c =
+pub returns-clause-kept : goal.returns-clause-kept
+returns-clause-kept g c none =
     let inv = c.loop-made.invariant in
-    record {
-      outside = inv.outside;
-      all = λ none. inv.going.all
-          (sym (entries_end c.args.turns c.loop-made._made
-          (world_of c.args.self.now c.args.machine.now.mem)
-          (world_of c.loop-made.self c.loop-made.machine.mem) c.loop-made.idle
-          (taken_by c.args.machine.now.hart) (taken_by c.loop-made.machine.hart)
-          c.loop-made-test.false inv.going.so_far)
-          ∙ none);
-    }
+    inv.going.all
+    (sym (entries_end c.args.turns c.loop-made._made
+    (world_of c.args.self.now c.args.machine.now.mem)
+    (world_of c.loop-made.self c.loop-made.machine.mem) c.loop-made.idle
+    (taken_by c.args.machine.now.hart) (taken_by c.loop-made.machine.hart)
+    c.loop-made-test.false inv.going.so_far)
+    ∙ none)

@@ -1,7 +1,6 @@
-use Rattle.xv_top.proofs.StandLemmas.{laid_there}
+use Rattle.xv_top.proofs.ManagerLemmas.{name_short}
 use Rattle.xv_top.proofs.manager.Manager.mem.Goals as goal
 
-pub peek-requires : goal.peek-requires
-peek-requires c =
-    laid_there c.args.self.now c.in-Some.guest c.args.machine.now.mem c.in-Some.ensures.guest.0
-    c.requires.sound
+pub mem-requires-clause-short : goal.mem-requires-clause-short
+mem-requires-clause-short c =
+    name_short c.args.name.now c.bytes.result.now c.bytes.ensures.value c.bytes.ensures.grammar

@@ -8,6 +8,6 @@ use Rattle.xv_top.proofs.manager.Manager.of_bytes.Goals as goal
 pub returns-in-Ok-clause-answer : goal.returns-in-Ok-clause-answer
 returns-in-Ok-clause-answer c =
     on_ok_weaker c.of_tree.result
-    (λ answer host taken sound. gives_by _ _
-    (ap (tree_answer (world_of c.args.self.now host) c.args.name.now) c.in-Ok.ensures.exact)
-    (answer host taken sound)) c.of_tree.ensures.answer
+    (λ answer. gives_by _ _
+    (ap (tree_answer (world_of c.args.self.now c.args.machine.now.mem) c.args.name.now)
+    c.in-Ok.ensures.exact) answer) c.of_tree.ensures.answer

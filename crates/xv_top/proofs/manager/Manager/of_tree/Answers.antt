@@ -1,11 +1,24 @@
-use Rattle.std.proofs.Common.{ap}
+use Rattle.std.proofs.Common.{◌≡◌, ◌∙◌, Ok, ap, sym, subst}
+use Rattle.std.proofs.lemmas.Result.{on_ok_weaker}
+use Rattle.xv_base.specs.declared.keys.Span.{Span}
+use Rattle.xv_tree.specs.Plan.{plan}
 use Rattle.xv_top.specs.Births.{plan_answer}
 use Rattle.xv_top.specs.Manager.{world_of}
 use Rattle.xv_top.proofs.ManagerLemmas.{gives_by}
+use Rattle.xv_top.proofs.PlanLemmas.{tree_faultless}
 use Rattle.xv_top.proofs.manager.Manager.of_tree.Goals as goal
 
+pub of_plan-requires-clause-faultless : goal.of_plan-requires-clause-faultless
+of_plan-requires-clause-faultless c =
+    let area = c.args.machine.now.area in
+    tree_faultless c.args.tree.now area c.in-Ok.plan
+    (subst (λ (a : Span). plan c.args.tree.now a ≡ Ok c.in-Ok.plan) c.area.ensures
+    c.in-Ok.ensures.plan)
+
 pub returns-in-Ok-clause-answer : goal.returns-in-Ok-clause-answer
-returns-in-Ok-clause-answer c host taken sound =
-    gives_by _ _
-    (ap (plan_answer (world_of c.args.self.now host) c.args.name.now) c.in-Ok.ensures.plan)
-    (c.of_plan.ensures.answer host taken sound)
+returns-in-Ok-clause-answer c =
+    on_ok_weaker c.of_plan.result
+    (λ answer. gives_by _ _
+    (ap (plan_answer (world_of c.args.self.now c.args.machine.now.mem) c.args.name.now)
+    (ap (plan c.args.tree.now) (sym (c.area.ensures ∙ c.requires.sound.area))
+    ∙ c.in-Ok.ensures.plan)) answer) c.of_plan.ensures.answer

@@ -1,0 +1,105 @@
+-- A lone machine keeps as many VCPUs as its plan has, whatever happens to it.
+use Rattle.std.proofs.Common.{◌≡◌, ℕ, zero, suc, Bool, true, false, cond, length, refl}
+use Rattle.std.proofs.Common.{◌∙◌, List, Option, Some, None, option_map, slice_get, subst}
+use Rattle.std.proofs.lemmas.List.{length-set, length-map}
+use Rattle.xv_step.specs.Outcome.{Ask, TableEntry, Target, Plain, Call, Wait, Outcome, Went, Raised}
+use Rattle.xv_step.specs.Outcome.{Left}
+use Rattle.xv_step.specs.Bus.{Spot}
+use Rattle.xv_step.specs.Step.{step}
+use Rattle.xv_region.specs.Plan.{Plan}
+use Rattle.xv_lone.specs.declared.vcpu.VcpuView.{VcpuView}
+use Rattle.xv_lone.specs.Memory.{Memory, Place, spot_at}
+use Rattle.xv_lone.specs.Machine.{Machine, guest_time, on_vcpu_of}
+use Rattle.xv_lone.specs.Journal.{Change, Load, Kick, Pause, Resume, Reset, Halt, Turn, stored_at}
+use Rattle.xv_lone.specs.Journal.{after_change}
+use Rattle.xv_lone.specs.Step.{OnHart, after, answered, inputs_at, hart_of, lone_bus}
+use Rattle.xv_lone.specs.Step.{lone_step, stepped}
+use Rattle.xv_lone.specs.Turn.{InTurn, begin, iterate, or_on, one_more, one_more_of, runs_on}
+use Rattle.xv_lone.specs.Turn.{turn, whole_turn, with_step}
+
+-- ---- an iteration keeps what each of its turns keeps
+
+on_keeps : {S : Type 0} (P : S → Type 0) (next : S → S) → ((t : S) → P t → P (next t)) → (s : S)
+    → (o : Option S) → P s → ((t : S) → o ≡ Some t → P t) → P (or_on next s o)
+on_keeps P next keeps s None now made = now
+on_keeps P next keeps s (Some t) now made = keeps t (made t refl)
+
+iterate_keeps : {S : Type 0} (P : S → Type 0) (f : S → Option S)
+    → ((s t : S) → f s ≡ Some t → P s → P t) → (n : ℕ) (s : S) → P s → P (iterate f n s)
+unfolding iterate
+iterate_keeps P f keeps zero s now = now
+iterate_keeps P f keeps (suc n) s now =
+    on_keeps P (iterate f n) (iterate_keeps P f keeps n) s (f s) now (λ t is. keeps s t is now)
+
+module _ (plan : Plan) where
+  -- the machine has a view for each VCPU of the plan
+  abbrev pub IsFull : Machine → Type 0
+  IsFull m = length m.vcpus ≡ length plan.vcpus
+
+  on_vcpu_full : (h : ℕ) (change : VcpuView → VcpuView) (m : Machine) (o : Option VcpuView)
+      → IsFull m → IsFull (on_vcpu_of h change m o)
+  on_vcpu_full h change m None full = full
+  on_vcpu_full h change m (Some v) full = length-set m.vcpus h (change v) ∙ full
+
+  -- ---- a turn
+
+  module _ (h t : ℕ) (r : OnHart) (v : VcpuView) (full : IsFull r.machine) where
+    answered_full : (ask : Ask) → IsFull (answered plan h t r v ask).on_hart.machine
+    unfolding answered
+    answered_full (TableEntry access va gpa) = length-set r.machine.vcpus h _ ∙ full
+    answered_full (Target access va gpa) = length-set r.machine.vcpus h _ ∙ full
+    answered_full (Plain access gpa next) = length-set r.machine.vcpus h _ ∙ full
+    answered_full (Call next) =
+        on_vcpu_full h _ r.machine (slice_get r.machine.vcpus h) full
+    answered_full (Wait next) = length-set r.machine.vcpus h _ ∙ full
+
+    after_full : (o : Outcome Memory Place) → IsFull (after plan h t r v o).on_hart.machine
+    after_full (Went s) = length-set r.machine.vcpus h _ ∙ full
+    after_full (Raised cause tval) = length-set r.machine.vcpus h _ ∙ full
+    after_full (Left ask) = answered_full ask
+
+    stepped_full : IsFull (stepped plan h t r v).on_hart.machine
+    stepped_full = after_full (step (lone_bus plan) (inputs_at h t r.machine v) (hart_of r v))
+
+  one_more_full : (h t : ℕ) (r next : InTurn) (o : Option VcpuView)
+      → one_more_of plan h t r o ≡ Some next → IsFull r.on_hart.machine
+      → IsFull next.on_hart.machine
+  unfolding lone_step
+  one_more_full h t r next None is full = cc
+  one_more_full h t r next (Some v) is full =
+      by_step (runs_on r.onward v.hart) (slice_get r.on_hart.machine.vcpus h) is
+    where
+      by_step : (on : Bool) (o : Option VcpuView)
+          → cond on (option_map (with_step r v) (option_map (stepped plan h t r.on_hart) o)) None
+          ≡ Some next → IsFull next.on_hart.machine
+      by_step false o is = cc
+      by_step true None is = cc
+      by_step true (Some w) is =
+          let same : with_step r v (stepped plan h t r.on_hart w) ≡ next = cc in
+          subst (λ (x : InTurn). IsFull x.on_hart.machine) same
+          (stepped_full h t r.on_hart w full)
+
+  turn_full : (h t : ℕ) (m : Machine) → IsFull m → IsFull (turn plan h t m)
+  unfolding turn whole_turn
+  turn_full h t m full =
+      iterate_keeps (λ (r : InTurn). IsFull r.on_hart.machine) (one_more plan h t)
+      (λ s next is now. one_more_full h t s next (slice_get s.on_hart.machine.vcpus h) is now)
+      1000 (begin h m) (on_vcpu_full h _ m (slice_get m.vcpus h) full)
+
+  -- ---- every change
+
+  stored_full : (bytes : List ℕ) (m : Machine) (o : Option (Spot Place)) → IsFull m
+      → IsFull (stored_at bytes m o)
+  stored_full bytes m None full = full
+  stored_full bytes m (Some spot) full = full
+
+  pub change_full : (change : Change) (m : Machine) → IsFull m
+      → IsFull (after_change plan change m)
+  change_full (Load gpa bytes) m full =
+      stored_full bytes m (spot_at plan (length bytes) gpa) full
+  change_full Kick m full = on_vcpu_full 0 _ m (slice_get m.vcpus 0) full
+  change_full Pause m full = full
+  change_full Resume m full = full
+  change_full (Reset clock) m full = length-map plan.vcpus _
+  change_full Halt m full = full
+  change_full (Turn vcpu clock) m full = turn_full vcpu (guest_time clock m) m full
