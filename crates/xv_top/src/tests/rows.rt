@@ -387,7 +387,7 @@ satp=0000000000000000 scounteren=0000000000000000 senvcfg=0000000000000000 timer
         ..PLAIN
     },
     Row {
-        message: "an alias of memory, and a reservation by the one address that is kept by the other",
+        message: "an alias of memory, and a reservation under both addresses",
         script: b"guest create a t
 guest poke a 0x90000000 0123456789abcdef
 guest mem a 0x80001000 8
