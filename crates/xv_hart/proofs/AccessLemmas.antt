@@ -1,15 +1,21 @@
 -- Where an access leads keeps its alignment, and lies in the memory.
 use Rattle.std.proofs.Common.{◌≡◌, ℕ, ◌+◌, ◌*◌, ◌/◌, ◌%◌, ◌≤◌, List, length, Option, None}
-use Rattle.std.proofs.Common.{Some, option_map, refl, sym, ap, ◌∙◌, arith}
+use Rattle.std.proofs.Common.{Some, Err, option_map, refl, sym, ap, ◌∙◌, arith}
 use Rattle.xv_pte.specs.declared.g_stage.Leaf.{Leaf}
 use Rattle.xv_pte.specs.GStage.{walked, led}
 use Rattle.xv_pte.proofs.WalkPages.{page_of_leaf}
+use Rattle.xv_pte.specs.declared.access.Kind3.TheVariants as kinds
 use Rattle.xv_pte.specs.declared.access.Kind3.{Kind3}
-use Rattle.xv_pte.specs.Sv39.{verdict, Address}
+use Rattle.xv_mem.specs.Bytes.{word_at}
+use Rattle.xv_pte.specs.Sv39.{Verdict, verdict, Address}
 use Rattle.xv_step.specs.Bus.{Spot, reader}
 use Rattle.xv_step.specs.Memory.{translated, by_verdict, at_spot, usable_spot}
 use Rattle.xv_step.specs.Outcome.{Ask, Outcome}
 use Rattle.xv_step.specs.State.{view}
+use Rattle.xv_step.specs.Step.{fetched_word, word_by}
+use Rattle.xv_sv39.specs.declared.tables.WalkFault.{WalkFault}
+use Rattle.xv_sv39.specs.declared.tables.WalkFault.TheVariants.{Page, Entry}
+use Rattle.xv_sv39.specs.Translate.{verdict_of}
 use Rattle.xv_hart.specs.declared.exit.Exit.TheVariants.{Trap}
 use Rattle.xv_hart.specs.declared.exit.HTrap.{HTrap}
 use Rattle.xv_hart.specs.declared.regs.Regs.{Regs}
@@ -109,3 +115,30 @@ left_nowhere r bytes kind width va gpa lacks done trap address none left =
     ∙ (ap (λ spot. exit_of r bytes (at_spot bus s kind width va lacks done gpa spot))
     (sym (no_spot (usable_spot kind (bus.find width gpa)) none))
     ∙ ap (λ v. exit_of r bytes (by_verdict bus s kind width va lacks done v)) (sym address))
+
+-- ---- a fetch
+
+module _ (r : Regs) (bytes : List ℕ) where
+  abbrev fetch_verdict : Verdict
+  fetch_verdict =
+      verdict (reader (bus_of r bytes) bytes) (view (state_of r bytes)) r.pc kinds.Fetch
+
+  -- the word at the place of an address, if it has one
+  pub fetched_at : (gpa : ℕ) (at : Option ℕ) → Address gpa ≡ fetch_verdict
+      → at ≡ option_map (λ spot. spot.place) ((bus_of r bytes).find 4 gpa)
+      → option_map (word_at 4 bytes) at ≡ fetched_word (bus_of r bytes) (state_of r bytes)
+  fetched_at gpa at address place =
+      ap (option_map (word_at 4 bytes)) place
+      ∙ (of_spot ((bus_of r bytes).find 4 gpa)
+      ∙ ap (word_by (bus_of r bytes) (state_of r bytes)) address)
+    where
+      of_spot : (spot : Option (Spot ℕ))
+          → option_map (word_at 4 bytes) (option_map (λ spot. spot.place) spot)
+          ≡ option_map (λ spot. word_at 4 bytes spot.place) spot
+      of_spot None = refl
+      of_spot (Some spot) = refl
+
+  pub fetched_nothing : (fault : WalkFault) → verdict_of (Err fault) ≡ fetch_verdict
+      → None ≡ fetched_word (bus_of r bytes) (state_of r bytes)
+  fetched_nothing Page e = ap (word_by (bus_of r bytes) (state_of r bytes)) e
+  fetched_nothing (Entry gpa) e = ap (word_by (bus_of r bytes) (state_of r bytes)) e

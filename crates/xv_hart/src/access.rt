@@ -157,7 +157,7 @@ fn page_fault(kind: Kind3) -> u64
 impl Regs {
     /// The guest physical address of a virtual one, for an access of this kind.
     #[inline(always)]
-    fn translate<L: Ledger>(
+    pub(crate) fn translate<L: Ledger>(
         &self,
         mem: &HostMem,
         kind: Kind3,
@@ -236,7 +236,7 @@ impl Regs {
 
     /// The host address that a guest physical one leads to, for an access of this kind; None where
     /// it leads to none, or the access is a store and may not write there.
-    fn place<L: Ledger>(
+    pub(crate) fn place<L: Ledger>(
         &self,
         mem: &HostMem,
         kind: Kind3,

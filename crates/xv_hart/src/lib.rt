@@ -15,6 +15,7 @@ mod access;
 mod action;
 mod effect;
 mod exit;
+mod fetch;
 mod hart;
 mod machine;
 mod memory;

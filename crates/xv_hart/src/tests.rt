@@ -214,9 +214,10 @@ fn store_all<L: Ledger>(memory: &mut HostMem, words: &[(u64, u64)], steps: &mut 
     }
 }
 
-/// What a step came to, the machine then, and the data.
+/// The word that was fetched before a step, what the step came to, the machine then, and the data.
 #[derive(Drop)]
 struct After {
+    fetched: Option<u32>,
     exit: Exit,
     machine: Machine,
     data: u64,
@@ -241,10 +242,12 @@ fn step_from<L: Ledger>(
     store_all(&mut machine.mem, &OWN, &mut steps);
     store(&mut machine.mem, HOST_PC / 8, word as u64, &mut steps);
     store(&mut machine.mem, HOST_DATA / 8, OLD, &mut steps);
+    let fetched = regs.fetch(&machine.mem, &mut steps);
     machine.hart.set_regs(regs);
     let exit = machine.hart.step(&mut machine.mem, &mut steps);
     let data = machine.mem.read64(HOST_DATA, &mut steps);
     Ok(After {
+        fetched,
         exit,
         machine,
         data,
@@ -643,6 +646,8 @@ fn walks_of_two_stages(rt: HostRuntime) -> Result<(), Fail> {
         } else {
             Exit::Trap(trap)
         };
+        let word = if cause == 20 { None } else { Some(instruction) };
+        assert_eq!(rt; after.fetched, word, "{at:#x}");
         assert_eq!(rt; after.exit, exit, "{at:#x}");
         assert_eq!(rt; after.machine.hart.regs().csrs.scause, scause, "{at:#x}");
     }
