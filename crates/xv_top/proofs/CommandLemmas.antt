@@ -5,8 +5,10 @@ use Rattle.xv_script.specs.declared.command.Command.{Command}
 use Rattle.xv_script.specs.declared.command.Command.TheVariants as command
 use Rattle.xv_script.specs.declared.command.Command.TheVariants.{Create, Flat, Load, Poke, Kick}
 use Rattle.xv_script.specs.declared.command.Command.TheVariants.{Regs, Mem, Digest, Audit, Run}
+use Rattle.xv_script.specs.declared.command.Command.TheVariants.{Ports, Clock, Tick}
 use Rattle.xv_top.specs.Births.{create_answer, flat_answer}
-use Rattle.xv_top.specs.Commands.{answer, kick_guest, regs_guest, run_answer, unbuilt}
+use Rattle.xv_top.specs.Commands.{answer, kick_guest, regs_guest, list_answer, ports_answer}
+use Rattle.xv_top.specs.Commands.{clock_answer, tick_answer, run_answer, unbuilt}
 use Rattle.xv_top.specs.Contents.{load_guest, poke_guest, mem_guest, digest_guest, audit_guest}
 use Rattle.xv_top.specs.World.{World, guest_named}
 
@@ -56,6 +58,22 @@ module _ (files : FileMap) (w : World) (c : Command) where
   unfolding answer
   audit_is name is = ap (answer files w) is
 
+  pub list_is : c ≡ command.List → answer files w c ≡ list_answer w
+  unfolding answer
+  list_is is = ap (answer files w) is
+
+  pub ports_is : c ≡ Ports → answer files w c ≡ ports_answer w
+  unfolding answer
+  ports_is is = ap (answer files w) is
+
+  pub clock_is : (value : ℕ) → c ≡ Clock value → answer files w c ≡ clock_answer w value
+  unfolding answer
+  clock_is value is = ap (answer files w) is
+
+  pub tick_is : (value : ℕ) → c ≡ Tick value → answer files w c ≡ tick_answer w value
+  unfolding answer
+  tick_is value is = ap (answer files w) is
+
   pub run_is : (turns : ℕ) → c ≡ Run turns → answer files w c ≡ run_answer w turns
   unfolding answer
   run_is turns is = ap (answer files w) is
@@ -71,69 +89,73 @@ pub unbuilt_is : (files : FileMap) (w : World) (c : Command)
     → ((name : List ℕ) (gpa : ℕ) (len : ℕ) → c ≡ command.Mem name gpa len → ⊥)
     → ((name : List ℕ) → c ≡ command.Digest name → ⊥)
     → ((name : List ℕ) → c ≡ command.Audit name → ⊥)
+    → (c ≡ command.List → ⊥)
+    → (c ≡ command.Ports → ⊥)
+    → ((value : ℕ) → c ≡ command.Clock value → ⊥)
+    → ((value : ℕ) → c ≡ command.Tick value → ⊥)
     → ((turns : ℕ) → c ≡ command.Run turns → ⊥)
     → answer files w c ≡ unbuilt w
 unfolding answer
 unbuilt_is files w (command.Create name file) not_create not_flat not_load not_poke not_kick
-    not_regs not_mem not_digest not_audit not_run =
+    not_regs not_mem not_digest not_audit not_list not_ports not_clock not_tick not_run =
     absurd (not_create name file refl)
-unbuilt_is files w (command.Flat name pages) not_create not_flat not_load not_poke not_kick
-    not_regs not_mem not_digest not_audit not_run =
+unbuilt_is files w (command.Flat name pages) not_create not_flat not_load not_poke not_kick not_regs
+    not_mem not_digest not_audit not_list not_ports not_clock not_tick not_run =
     absurd (not_flat name pages refl)
 unbuilt_is files w (command.Load name gpa file) not_create not_flat not_load not_poke not_kick
-    not_regs not_mem not_digest not_audit not_run =
+    not_regs not_mem not_digest not_audit not_list not_ports not_clock not_tick not_run =
     absurd (not_load name gpa file refl)
 unbuilt_is files w (command.Poke name gpa bytes) not_create not_flat not_load not_poke not_kick
-    not_regs not_mem not_digest not_audit not_run =
+    not_regs not_mem not_digest not_audit not_list not_ports not_clock not_tick not_run =
     absurd (not_poke name gpa bytes refl)
 unbuilt_is files w (command.Kick name) not_create not_flat not_load not_poke not_kick not_regs
-    not_mem not_digest not_audit not_run =
+    not_mem not_digest not_audit not_list not_ports not_clock not_tick not_run =
     absurd (not_kick name refl)
-unbuilt_is files w (command.Regs name vcpu) not_create not_flat not_load not_poke not_kick
-    not_regs not_mem not_digest not_audit not_run =
-    absurd (not_regs name vcpu refl)
-unbuilt_is files w (command.Mem name gpa len) not_create not_flat not_load not_poke not_kick
-    not_regs not_mem not_digest not_audit not_run =
-    absurd (not_mem name gpa len refl)
-unbuilt_is files w (command.Digest name) not_create not_flat not_load not_poke not_kick not_regs
-    not_mem not_digest not_audit not_run =
-    absurd (not_digest name refl)
-unbuilt_is files w (command.Audit name) not_create not_flat not_load not_poke not_kick not_regs
-    not_mem not_digest not_audit not_run =
-    absurd (not_audit name refl)
-unbuilt_is files w (command.Run turns) not_create not_flat not_load not_poke not_kick not_regs
-    not_mem not_digest not_audit not_run =
-    absurd (not_run turns refl)
 unbuilt_is files w (command.Pause name) not_create not_flat not_load not_poke not_kick not_regs
-    not_mem not_digest not_audit not_run =
+    not_mem not_digest not_audit not_list not_ports not_clock not_tick not_run =
     refl
 unbuilt_is files w (command.Resume name) not_create not_flat not_load not_poke not_kick not_regs
-    not_mem not_digest not_audit not_run =
+    not_mem not_digest not_audit not_list not_ports not_clock not_tick not_run =
     refl
 unbuilt_is files w (command.Reset name) not_create not_flat not_load not_poke not_kick not_regs
-    not_mem not_digest not_audit not_run =
+    not_mem not_digest not_audit not_list not_ports not_clock not_tick not_run =
     refl
 unbuilt_is files w (command.Halt name) not_create not_flat not_load not_poke not_kick not_regs
-    not_mem not_digest not_audit not_run =
+    not_mem not_digest not_audit not_list not_ports not_clock not_tick not_run =
     refl
 unbuilt_is files w (command.Destroy name) not_create not_flat not_load not_poke not_kick not_regs
-    not_mem not_digest not_audit not_run =
+    not_mem not_digest not_audit not_list not_ports not_clock not_tick not_run =
     refl
+unbuilt_is files w (command.Regs name vcpu) not_create not_flat not_load not_poke not_kick not_regs
+    not_mem not_digest not_audit not_list not_ports not_clock not_tick not_run =
+    absurd (not_regs name vcpu refl)
+unbuilt_is files w (command.Mem name gpa len) not_create not_flat not_load not_poke not_kick
+    not_regs not_mem not_digest not_audit not_list not_ports not_clock not_tick not_run =
+    absurd (not_mem name gpa len refl)
+unbuilt_is files w (command.Digest name) not_create not_flat not_load not_poke not_kick not_regs
+    not_mem not_digest not_audit not_list not_ports not_clock not_tick not_run =
+    absurd (not_digest name refl)
+unbuilt_is files w (command.Audit name) not_create not_flat not_load not_poke not_kick not_regs
+    not_mem not_digest not_audit not_list not_ports not_clock not_tick not_run =
+    absurd (not_audit name refl)
 unbuilt_is files w command.List not_create not_flat not_load not_poke not_kick not_regs not_mem
-    not_digest not_audit not_run =
-    refl
+    not_digest not_audit not_list not_ports not_clock not_tick not_run =
+    absurd (not_list refl)
 unbuilt_is files w (command.Input name port bytes) not_create not_flat not_load not_poke not_kick
-    not_regs not_mem not_digest not_audit not_run =
+    not_regs not_mem not_digest not_audit not_list not_ports not_clock not_tick not_run =
     refl
-unbuilt_is files w (command.Dump name port) not_create not_flat not_load not_poke not_kick
-    not_regs not_mem not_digest not_audit not_run =
+unbuilt_is files w (command.Dump name port) not_create not_flat not_load not_poke not_kick not_regs
+    not_mem not_digest not_audit not_list not_ports not_clock not_tick not_run =
     refl
 unbuilt_is files w command.Ports not_create not_flat not_load not_poke not_kick not_regs not_mem
-    not_digest not_audit not_run =
-    refl
+    not_digest not_audit not_list not_ports not_clock not_tick not_run =
+    absurd (not_ports refl)
 unbuilt_is files w (command.Clock value) not_create not_flat not_load not_poke not_kick not_regs
-    not_mem not_digest not_audit not_run =
-    refl
+    not_mem not_digest not_audit not_list not_ports not_clock not_tick not_run =
+    absurd (not_clock value refl)
 unbuilt_is files w (command.Tick value) not_create not_flat not_load not_poke not_kick not_regs
-    not_mem not_digest not_audit not_run =
-    refl
+    not_mem not_digest not_audit not_list not_ports not_clock not_tick not_run =
+    absurd (not_tick value refl)
+unbuilt_is files w (command.Run turns) not_create not_flat not_load not_poke not_kick not_regs
+    not_mem not_digest not_audit not_list not_ports not_clock not_tick not_run =
+    absurd (not_run turns refl)

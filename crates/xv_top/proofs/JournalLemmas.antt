@@ -2,7 +2,7 @@
 use Rattle.std.proofs.Common.{◌≡◌, ℕ, zero, suc, Bool, true, false, cond, ltb, List, [], ◌∷◌, ◌++◌}
 use Rattle.std.proofs.Common.{map, length, Option, Some, None, is_some, slice_get, subst, refl, sym}
 use Rattle.std.proofs.Common.{ap, ◌∙◌, codes, arith, sum_by, Result, Ok, Err}
-use Rattle.std.specs.List.{concat}
+use Rattle.std.specs.List.{concat, flat_map}
 use Rattle.std.specs.Str.{bytes_eq}
 use Rattle.std.proofs.lemmas.Bool.{cond_both, cond-true, cond-false, ltb-false}
 use Rattle.std.proofs.lemmas.List.{append-nil, append_assoc}
@@ -33,10 +33,12 @@ use Rattle.xv_top.specs.Answer.{Answer, refused, says, where_there, where_reset,
 use Rattle.xv_top.specs.Births.{admitted, where_alone, is_built, plan_answer, tree_answer}
 use Rattle.xv_top.specs.Births.{create_answer}
 use Rattle.xv_top.specs.Contents.{put_into, load_bytes, load_guest, mem_of}
-use Rattle.xv_top.specs.Commands.{answer, regs_of_vcpu, run_answer, unbuilt}
+use Rattle.xv_top.specs.Commands.{answer, clock_answer, tick_answer, regs_of_vcpu, run_answer}
+use Rattle.xv_top.specs.Commands.{unbuilt}
 use Rattle.xv_top.specs.Files.{file_of, most_tree, most_image}
 use Rattle.xv_top.specs.Texts.{frames_text, regs_text, tree_text, plan_text, mem_text}
-use Rattle.xv_top.specs.Texts.{digest_text, audit_text}
+use Rattle.xv_top.specs.Texts.{digest_text, audit_text, clock_text}
+use Rattle.xv_top.specs.Lists.{guests_text, ports_of, ports_text}
 use Rattle.xv_top.specs.Transcript.{world_after}
 use Rattle.xv_top.specs.Journals.{journal_from, journal_of, entries_by, AreReplayed}
 
@@ -140,10 +142,14 @@ abbrev AnswerReplayed : List GuestEntry → Answer → Type 0
 AnswerReplayed es a = AreReplayed (es ++ a.entries) a.world.guests
 
 module _ (es : List GuestEntry) (w : World) (h : AreReplayed es w.guests) where
-  same_replayed : (a : Answer) → a.world ≡ w → a.entries ≡ [] → AnswerReplayed es a
-  same_replayed a world none =
-      subst (λ x. AreReplayed (es ++ a.entries) x.guests) (sym world)
+  guests_replayed : (a : Answer) → a.world.guests ≡ w.guests → a.entries ≡ []
+      → AnswerReplayed es a
+  guests_replayed a guests none =
+      subst (AreReplayed (es ++ a.entries)) (sym guests)
       (subst (λ x. AreReplayed x w.guests) (sym (append-nil es) ∙ ap (λ x. es ++ x) (sym none)) h)
+
+  same_replayed : (a : Answer) → a.world ≡ w → a.entries ≡ [] → AnswerReplayed es a
+  same_replayed a world = guests_replayed a (ap (λ (x : World). x.guests) world)
 
   says_replayed : (text : List ℕ) → AnswerReplayed es (says w text)
   says_replayed text = same_replayed (says w text) refl refl
@@ -242,6 +248,12 @@ module _ (es : List GuestEntry) (w : World) (h : AreReplayed es w.guests) where
   regs_replayed name vcpu None = same_replayed (refused w (codes "vcpu")) refl refl
   regs_replayed name vcpu (Some v) = says_replayed (regs_text name vcpu v)
 
+  clock_replayed : (value : ℕ) → AnswerReplayed es (clock_answer w value)
+  clock_replayed value =
+      cond_both (ltb value w.clock) _ _ (AnswerReplayed es)
+      (λ _. same_replayed (refused w (codes "clock")) refl refl)
+      (λ _. guests_replayed (says (record w { clock = value }) (clock_text value)) refl refl)
+
   turns_replayed : (turns : ℕ) → AnswerReplayed es (run_answer w turns)
   turns_replayed turns =
       cond_both _ _ _ (AnswerReplayed es) (λ _. same_replayed (refused w (codes "turns")) refl refl)
@@ -275,12 +287,12 @@ module _ (es : List GuestEntry) (w : World) (h : AreReplayed es w.guests) where
   answer_replayed files (command.Audit name) =
       there_replayed _ (guest_named name w)
       (λ g. says_replayed (audit_text name (sum_by mapped_pages g.plan.regions)))
-  answer_replayed files command.List = same_replayed (unbuilt w) refl refl
+  answer_replayed files command.List = says_replayed (guests_text w.guests)
   answer_replayed files (command.Input name port bytes) = same_replayed (unbuilt w) refl refl
   answer_replayed files (command.Dump name port) = same_replayed (unbuilt w) refl refl
-  answer_replayed files command.Ports = same_replayed (unbuilt w) refl refl
-  answer_replayed files (command.Clock value) = same_replayed (unbuilt w) refl refl
-  answer_replayed files (command.Tick value) = same_replayed (unbuilt w) refl refl
+  answer_replayed files command.Ports = says_replayed (ports_text (flat_map ports_of w.guests))
+  answer_replayed files (command.Clock value) = clock_replayed value
+  answer_replayed files (command.Tick value) = guests_replayed (tick_answer w value) refl refl
   answer_replayed files (command.Run turns) = turns_replayed turns
 
 replayed_from : (files : FileMap) (es : List GuestEntry) (w : World) (ls : List Line)

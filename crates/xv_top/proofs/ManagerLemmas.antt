@@ -64,17 +64,24 @@ module _ (a : Answer) {m next : Manager} {old new : Machine} {printed : List ℕ
     host = h.host;
   }
 
+-- a text is printed, and no guest changes
+pub gives_says : (m next : Manager) (machine : Machine) (w : World) (printed text : List ℕ)
+    → printed ≡ text → world_of next machine.mem ≡ w → next.host ≡ m.host
+    → Gives (says w text) m next machine machine printed
+gives_says m next machine w printed text prints world host = record {
+  text = prints;
+  world = world;
+  work = let n = taken_by machine.hart in omega arith;
+  memory = λ none. refl;
+  host = λ none. host;
+}
+
 -- a text is printed, and nothing else happens
 pub gives_text : (a : Answer) (m : Manager) (machine : Machine) (printed text : List ℕ)
     → a ≡ says (world_of m machine.mem) text → printed ≡ text → Gives a m m machine machine printed
 gives_text a m machine printed text is prints =
-    gives_by a (says (world_of m machine.mem) text) is (record {
-      text = prints;
-      world = refl;
-      work = let n = taken_by machine.hart in omega arith;
-      memory = λ none. refl;
-      host = λ none. refl;
-    })
+    gives_by a (says (world_of m machine.mem) text) is
+    (gives_says m m machine (world_of m machine.mem) printed text prints refl refl)
 
 -- a call of the host changed nothing
 pub gives_same : (a : Answer) (m : Manager) (host : Host) (machine next : Machine)

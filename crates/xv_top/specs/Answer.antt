@@ -14,7 +14,7 @@ pub record Answer : Type 0 where
   pub entries : List GuestEntry
   pub work : ℕ
 
--- a text alone
+-- a text and a world alone
 abbrev pub says : World → List ℕ → Answer
 says w text = record { text = text; world = w; entries = []; work = 0 }
 

@@ -1,6 +1,7 @@
 -- What each command answers.
 use Rattle.std.specs.Prelude.{ℕ, ◌+◌, nat_lt, Bool, false, not, ◌&&◌, if◌then◌else◌, List}
 use Rattle.std.specs.Prelude.{length, Option, Some, None, is_some, slice_get, codes}
+use Rattle.std.specs.List.{flat_map}
 use Rattle.xv_outside.specs.Fetch.{FileMap}
 use Rattle.xv_lone.specs.declared.vcpu.VcpuView.{VcpuView}
 use Rattle.xv_lone.specs.Ready.{is_reset}
@@ -10,7 +11,8 @@ use Rattle.xv_script.specs.declared.command.Command.TheVariants as command
 use Rattle.xv_top.specs.Answer.{Answer, says, refused, changes, where_there, where_reset}
 use Rattle.xv_top.specs.Births.{create_answer, flat_answer}
 use Rattle.xv_top.specs.Contents.{load_guest, poke_guest, mem_guest, digest_guest, audit_guest}
-use Rattle.xv_top.specs.Texts.{kicked_text, ran_text, regs_text}
+use Rattle.xv_top.specs.Lists.{guests_text, ports_of, ports_text}
+use Rattle.xv_top.specs.Texts.{clock_text, kicked_text, ran_text, regs_text, tick_text}
 use Rattle.xv_top.specs.World.{LiveGuest, World, RunSoFar, most_turns, guest_named, run_of}
 
 -- `guest kick`
@@ -25,6 +27,25 @@ regs_of_vcpu w name vcpu (Some v) = says w (regs_text name vcpu v)
 abbrev pub regs_guest : World → (name : List ℕ) → ℕ → Option LiveGuest → Answer
 regs_guest w name vcpu o =
     where_there w (λ g. regs_of_vcpu w name vcpu (slice_get g.machine.vcpus vcpu)) o
+
+-- `guest list`
+abbrev pub list_answer : World → Answer
+list_answer w = says w (guests_text w.guests)
+
+-- `vserial list`: of each guest, in order of creation
+abbrev pub ports_answer : World → Answer
+ports_answer w = says w (ports_text (flat_map ports_of w.guests))
+
+-- `clock`, which doesn't go back
+abbrev pub clock_answer : World → ℕ → Answer
+clock_answer w value =
+    if nat_lt value w.clock
+    then refused w (codes "clock")
+    else says (record w { clock = value }) (clock_text value)
+
+-- `tick`
+abbrev pub tick_answer : World → ℕ → Answer
+tick_answer w value = says (record w { tick = value }) (tick_text value)
 
 -- `run`
 abbrev pub ran_answer : ℕ → RunSoFar → Answer
@@ -60,12 +81,12 @@ answer files w (command.Regs name vcpu) = regs_guest w name vcpu (guest_named na
 answer files w (command.Mem name gpa len) = mem_guest w name gpa len (guest_named name w)
 answer files w (command.Digest name) = digest_guest w name (guest_named name w)
 answer files w (command.Audit name) = audit_guest w name (guest_named name w)
-answer files w command.List = unbuilt w
+answer files w command.List = list_answer w
 answer files w (command.Input name port bytes) = unbuilt w
 answer files w (command.Dump name port) = unbuilt w
-answer files w command.Ports = unbuilt w
-answer files w (command.Clock value) = unbuilt w
-answer files w (command.Tick value) = unbuilt w
+answer files w command.Ports = ports_answer w
+answer files w (command.Clock value) = clock_answer w value
+answer files w (command.Tick value) = tick_answer w value
 answer files w (command.Run turns) = run_answer w turns
 
 -- ---- what stops a run

@@ -5,6 +5,7 @@ pub mod Commands
 pub mod Contents
 pub mod Files
 pub mod Layout
+pub mod Lists
 pub mod Journals
 pub mod Manager
 pub mod Run

@@ -56,6 +56,12 @@ digest_text name digest = codes "digest " ++ name ++ codes " " ++ hex_bytes dige
 unfoldable pub audit_text : List ℕ → ℕ → List ℕ
 audit_text name pages = codes "audit " ++ name ++ codes " " ++ decimal pages ++ line_end
 
+unfoldable pub clock_text : ℕ → List ℕ
+clock_text clock = codes "clock " ++ decimal clock ++ line_end
+
+unfoldable pub tick_text : ℕ → List ℕ
+tick_text tick = codes "tick " ++ decimal tick ++ line_end
+
 -- ---- a tree or a plan that is refused
 
 abbrev pub fdt_word : FdtKind → List ℕ

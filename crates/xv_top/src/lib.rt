@@ -1,6 +1,7 @@
 //! The program's top call.
 #![tactic(auto)]
 
+mod lists;
 mod manager;
 mod plan;
 mod program;

@@ -9,17 +9,20 @@ ghost use Rattle.xv_outside.specs.Fetch.{FileMap};
 
 mod admit;
 mod audit;
+mod clock;
 mod create;
 mod digest;
 mod fetch;
 mod flat;
 mod kick;
+mod list;
 mod load;
 mod mem;
 mod poke;
 mod put;
 mod regs;
 mod run;
+mod vserial;
 
 use crate::refusals;
 use crate::stop::LineStop;
@@ -218,6 +221,22 @@ impl Manager {
             }
             Command::Audit(name) => {
                 self.audit(machine, name, printer);
+                Ok(())
+            }
+            Command::List => {
+                self.list(printer);
+                Ok(())
+            }
+            Command::Ports => {
+                self.ports(printer);
+                Ok(())
+            }
+            Command::Clock(value) => {
+                self.set_clock(*value, printer);
+                Ok(())
+            }
+            Command::Tick(value) => {
+                self.set_tick(*value, printer);
                 Ok(())
             }
             Command::Run(turns) => {

@@ -125,6 +125,28 @@ pub fn ran(printer: &mut Printer, turns: u64, idle: u64, clock: u64)
     printer.text(b"\n");
 }
 
+/// `clock VALUE`
+#[tactic(auto, unfolding(crate::specs::Texts::clock_text))]
+pub fn clock(printer: &mut Printer, value: u64)
+    requires { printer.old ≡ [] }
+    ensures { printer.new ≡ texts.clock_text value }
+{
+    printer.text(b"clock ");
+    printer.number(value);
+    printer.text(b"\n");
+}
+
+/// `tick VALUE`
+#[tactic(auto, unfolding(crate::specs::Texts::tick_text))]
+pub fn tick(printer: &mut Printer, value: u64)
+    requires { printer.old ≡ [] }
+    ensures { printer.new ≡ texts.tick_text value }
+{
+    printer.text(b"tick ");
+    printer.number(value);
+    printer.text(b"\n");
+}
+
 fn hart_state_name(state: HartState) -> &'static [u8]
     ensures text { result.now ≡ texts.hart_state_text state }
     ensures short { length result.now ≤ 9 }

@@ -1,15 +1,18 @@
 mod rows;
 mod trees;
 
-use crate::boot;
+use crate::{boot, lists};
 use rows::{FAULT_ROWS, FileOf, ROWS, Row, TREES, TreeRow};
 use std::alloc::Global;
 use std::process::Abort;
 use std::test::Fail;
 use trees::filled;
-use xv_base::file_name_of;
+use xv_base::{dev_name_of, file_name_of};
 use xv_hart::Machine;
+use xv_lone::{Ending, GuestState};
 use xv_outside::{MemFile, MemFiles, MemSink, MemSource};
+use xv_print::Printer;
+use xv_region::{DeviceKind, Kind, Region};
 
 /// The calls of source, sink and files that fail, by their numbers from 0, and the sink's room.
 #[derive(Clone, Copy)]
@@ -155,4 +158,55 @@ fn words_that_are_no_usage(rt: HostRuntime) -> Result<(), Fail> {
         assert_eq!(rt; (status, taken.len()), (2, 0), "{words:?}");
     }
     Ok(())
+}
+
+// No guest of a script has these states yet, nor a UART.
+#[test]
+fn lists_of_guests_and_ports(rt: HostRuntime) -> Result<(), Fail> {
+    let alloc = rt.alloc();
+    let mut printer = Printer::new(alloc).ok().ok_or("no memory")?;
+    let rows: [(GuestState, &[u8]); 5] = [
+        (GuestState::Paused, b"a paused vcpus 2\n"),
+        (
+            GuestState::Halted(Ending::Command),
+            b"a halted command vcpus 2\n",
+        ),
+        (GuestState::Halted(Ending::Pass), b"a halted pass vcpus 2\n"),
+        (
+            GuestState::Halted(Ending::Fail(65535)),
+            b"a halted fail 65535 vcpus 2\n",
+        ),
+        (
+            GuestState::Halted(Ending::Shutdown),
+            b"a halted shutdown vcpus 2\n",
+        ),
+    ];
+    for (state, wanted) in rows {
+        printer.clear();
+        lists::guest(&mut printer, b"a", state, 2);
+        assert_eq!(rt; printer.bytes(), wanted);
+    }
+
+    let uart = Kind::Device(DeviceKind::Uart { shift: 0, irq: 10 });
+    let regions = [
+        region(b"ram", Kind::Ram)?,
+        region(b"uart@10000000", uart)?,
+        region(b"plic", Kind::Device(DeviceKind::Plic))?,
+        region(b"uart", uart)?,
+    ];
+    printer.clear();
+    lists::ports(&mut printer, lists::port_count(&regions));
+    lists::ports_of(&mut printer, b"a", &regions);
+    let wanted: &[u8] = b"vserial 2\na/uart@10000000\na/uart\n";
+    assert_eq!(rt; printer.bytes(), wanted);
+    Ok(())
+}
+
+fn region(name: &[u8], kind: Kind) -> Result<Region, Fail> {
+    Ok(Region {
+        name: dev_name_of(name).ok_or("a node's name")?,
+        base: 0,
+        size: 4096,
+        kind,
+    })
 }

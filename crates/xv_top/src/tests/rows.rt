@@ -86,7 +86,7 @@ const ALIAS_TREE: FileOf = FileOf {
 };
 
 // A function that has a table is proved in time that grows faster than the table, so there are two.
-pub static ROWS: [Row; 15] = [
+pub static ROWS: [Row; 18] = [
     Row {
         message: "the first script",
         script: b"guest flat a 4
@@ -210,13 +210,11 @@ x4=0000000000000000 x5=0000000000000000 x6=0000000000000000 x7=0000000000000000
     },
     Row {
         message: "lines that are not built",
-        script: b"clock 1
-tick 1
-guest list
-guest pause a
+        script: b"guest pause a
 guest reset a
+guest destroy a
+vserial input a/u 00
 vserial dump a/u
-vserial list
 ",
         transcript: &[
             b"refused unbuilt
@@ -224,10 +222,70 @@ refused unbuilt
 refused unbuilt
 refused unbuilt
 refused unbuilt
-refused unbuilt
-refused unbuilt
 ",
         ],
+        ..PLAIN
+    },
+    Row {
+        message: "a clock that doesn't go back, and a tick",
+        script: b"clock 50
+clock 50
+clock 49
+tick 7
+run 2
+clock 63
+clock 0xffffffffffffffff
+run 1
+clock 5
+",
+        transcript: &[
+            b"clock 50
+clock 50
+refused clock
+tick 7
+ran 2 idle 2 now 64
+refused clock
+clock 18446744073709551615
+ran 1 idle 1 now 6
+refused clock
+",
+        ],
+        ..PLAIN
+    },
+    Row {
+        message: "the states of a flat guest, and the lists",
+        script: b"vserial list
+guest flat a 1
+guest list
+guest kick a
+guest kick a
+guest poke a 0x80000000 00
+guest list
+vserial list
+guest kick b
+guest flat a 1
+",
+        transcript: &[
+            b"vserial 0
+created a vcpus 1 regions 1 frames 3
+guests 1
+a reset vcpus 1
+kicked a
+refused state
+refused state
+guests 1
+a running vcpus 1
+vserial 0
+refused guest
+refused used
+",
+        ],
+        ..PLAIN
+    },
+    Row {
+        message: "a list of no guests, in a line without its end",
+        script: b"guest list",
+        transcript: &[b"guests 0\n"],
         ..PLAIN
     },
     Row {

@@ -5,7 +5,8 @@ use Rattle.xv_top.specs.Manager.{world_of}
 use Rattle.xv_top.specs.Texts.{refused_text}
 use Rattle.xv_top.specs.World.{guest_named}
 use Rattle.xv_top.proofs.CommandLemmas.{create_is, flat_is, load_is, poke_is, kick_is, regs_is}
-use Rattle.xv_top.proofs.CommandLemmas.{mem_is, digest_is, audit_is, run_is, unbuilt_is}
+use Rattle.xv_top.proofs.CommandLemmas.{mem_is, digest_is, audit_is, list_is, ports_is, clock_is}
+use Rattle.xv_top.proofs.CommandLemmas.{tick_is, run_is, unbuilt_is}
 use Rattle.xv_top.proofs.FetchLemmas.{stands_command}
 use Rattle.xv_top.proofs.ManagerLemmas.{create_stops, flat_stops, load_stops, gives_by, gives_text}
 use Rattle.xv_top.proofs.manager.Manager.apply.Goals as goal
@@ -83,6 +84,30 @@ returns-in-Audit-clause-answer g c told is =
     let w = world_of c.args.self.now c.args.machine.now.mem in
     gives_by _ _ (audit_is told w c.args.line.now.command _ c.in-Audit.is) c.audit.ensures
 
+pub returns-in-List-clause-answer : goal.returns-in-List-clause-answer
+returns-in-List-clause-answer g c told is =
+    let w = world_of c.args.self.now c.args.machine.now.mem in
+    gives_by _ _ (list_is told w c.args.line.now.command c.in-List.is)
+    (c.list.ensures c.args.machine.now)
+
+pub returns-in-Ports-clause-answer : goal.returns-in-Ports-clause-answer
+returns-in-Ports-clause-answer g c told is =
+    let w = world_of c.args.self.now c.args.machine.now.mem in
+    gives_by _ _ (ports_is told w c.args.line.now.command c.in-Ports.is)
+    (c.ports.ensures c.args.machine.now)
+
+pub returns-in-Clock-clause-answer : goal.returns-in-Clock-clause-answer
+returns-in-Clock-clause-answer g c told is =
+    let w = world_of c.args.self.now c.args.machine.now.mem in
+    gives_by _ _ (clock_is told w c.args.line.now.command _ c.in-Clock.is)
+    (c.set_clock.ensures.answer c.args.machine.now)
+
+pub returns-in-Tick-clause-answer : goal.returns-in-Tick-clause-answer
+returns-in-Tick-clause-answer g c told is =
+    let w = world_of c.args.self.now c.args.machine.now.mem in
+    gives_by _ _ (tick_is told w c.args.line.now.command _ c.in-Tick.is)
+    (c.set_tick.ensures.answer c.args.machine.now)
+
 pub returns-in-Run-clause-answer : goal.returns-in-Run-clause-answer
 returns-in-Run-clause-answer g c told is =
     let w = world_of c.args.self.now c.args.machine.now.mem in
@@ -96,5 +121,6 @@ returns-in_default-clause-answer g c told is =
     gives_text _ m machine _ (refused_text (codes "unbuilt"))
     (unbuilt_is told (world_of m machine.mem) c.args.line.now.command
     others.not-Create others.not-Flat others.not-Load others.not-Poke others.not-Kick
-    others.not-Regs others.not-Mem others.not-Digest others.not-Audit others.not-Run)
+    others.not-Regs others.not-Mem others.not-Digest others.not-Audit others.not-List
+    others.not-Ports others.not-Clock others.not-Tick others.not-Run)
     c.refused.ensures

@@ -1,0 +1,122 @@
+//! The lists of guests and of serial ports, printed.
+ghost use Rattle.std.specs.Prelude.{◌≡◌, ◌+◌, ◌*◌, ◌≤◌, [], ◌++◌, length, count_by};
+ghost use Rattle.std.specs.List.{filter, flat_map};
+ghost use Rattle.xv_lone.specs.declared.vcpu.GuestState.TheVariants as states;
+ghost use Rattle.xv_print.specs.declared.printer.TheConstants.{ROOM};
+ghost use Rattle.xv_top.specs.Lists as lists;
+
+use xv_lone::{Ending, GuestState};
+use xv_print::Printer;
+use xv_region::{DeviceKind, Kind, Region};
+
+/// `guests COUNT`
+#[tactic(auto, unfolding(crate::specs::Lists::guests_head))]
+pub fn guests(printer: &mut Printer, count: u64)
+    requires { printer.old ≡ [] }
+    ensures text { printer.new ≡ lists.guests_head count }
+    ensures short { length printer.new ≤ 40 }
+{
+    printer.text(b"guests ");
+    printer.number(count);
+    printer.text(b"\n");
+}
+
+/// `NAME STATE vcpus VCPUS`
+#[tactic(auto, unfolding(crate::specs::Lists::guest_line))]
+pub fn guest(printer: &mut Printer, name: &[u8], standing: GuestState, vcpus: u64)
+    requires room { length printer.old + 120 ≤ ROOM }
+    requires short { length name.now ≤ 40 }
+    ensures text { printer.new ≡ printer.old ++ lists.guest_line name.now standing vcpus }
+    ensures short { length printer.new ≤ length printer.old + 120 }
+{
+    printer.text(name);
+    printer.text(b" ");
+    state(printer, standing);
+    printer.text(b" vcpus ");
+    printer.number(vcpus);
+    printer.text(b"\n");
+}
+
+fn state(printer: &mut Printer, state: GuestState)
+    requires room { length printer.old + 40 ≤ ROOM }
+    ensures text { printer.new ≡ printer.old ++ lists.state_text state }
+    ensures short { length printer.new ≤ length printer.old + 40 }
+{
+    match state {
+        GuestState::Reset => printer.text(b"reset"),
+        GuestState::Running => printer.text(b"running"),
+        GuestState::Paused => printer.text(b"paused"),
+        GuestState::Halted(ending) => halted(printer, ending),
+    }
+}
+
+fn halted(printer: &mut Printer, ending: Ending)
+    requires room { length printer.old + 40 ≤ ROOM }
+    ensures text { printer.new ≡ printer.old ++ lists.state_text (states.Halted ending) }
+    ensures short { length printer.new ≤ length printer.old + 40 }
+{
+    printer.text(b"halted ");
+    match ending {
+        Ending::Command => printer.text(b"command"),
+        Ending::Pass => printer.text(b"pass"),
+        Ending::Fail(code) => {
+            printer.text(b"fail ");
+            printer.number(u64::from(code));
+        }
+        Ending::Shutdown => printer.text(b"shutdown"),
+    }
+}
+
+/// `vserial COUNT`
+#[tactic(auto, unfolding(crate::specs::Lists::ports_head))]
+pub fn ports(printer: &mut Printer, count: u64)
+    requires { printer.old ≡ [] }
+    ensures text { printer.new ≡ lists.ports_head count }
+    ensures short { length printer.new ≤ 40 }
+{
+    printer.text(b"vserial ");
+    printer.number(count);
+    printer.text(b"\n");
+}
+
+/// `NAME/DEV` for each serial port among these regions, one a line.
+pub fn ports_of(printer: &mut Printer, name: &[u8], regions: &[Region])
+    requires room { length printer.old + 120 * length regions.now ≤ ROOM }
+    requires short { length name.now ≤ 40 }
+    ensures { printer.new ≡ printer.old
+        ++ flat_map (lists.port_line name.now) (filter lists.is_port regions.now) }
+{
+    for region in regions {
+        if is_port(region) {
+            port(printer, name, region);
+        }
+    }
+}
+
+/// `NAME/DEV`
+#[tactic(auto, using(crate::proofs::ListLemmas::dev_short), unfolding(crate::specs::Lists::port_text))]
+fn port(printer: &mut Printer, name: &[u8], region: &Region)
+    requires room { length printer.old + 120 ≤ ROOM }
+    requires short { length name.now ≤ 40 }
+    ensures text { printer.new ≡ printer.old ++ lists.port_line name.now region.now }
+    ensures short { length printer.new ≤ length printer.old + 120 }
+{
+    printer.text(name);
+    printer.text(b"/");
+    printer.text(region.name.bytes());
+    printer.text(b"\n");
+}
+
+/// How many of these regions are serial ports.
+pub fn port_count(regions: &[Region]) -> u64
+    ensures { result ≡ count_by lists.is_port regions.now }
+{
+    regions.iter().filter(|region| is_port(region)).count() as u64
+}
+
+/// Whether a UART stands behind the addresses of a region.
+fn is_port(region: &Region) -> bool
+    ensures { result ≡ lists.is_port region.now }
+{
+    matches!(region.kind, Kind::Device(DeviceKind::Uart { .. }))
+}
