@@ -5,6 +5,7 @@ ghost use Rattle.xv_lone.specs.declared.vcpu.GuestState.TheVariants as states;
 ghost use Rattle.xv_print.specs.declared.printer.TheConstants.{ROOM};
 ghost use Rattle.xv_top.specs.Lists as lists;
 
+use xv_base::DevName;
 use xv_lone::{Ending, GuestState};
 use xv_print::Printer;
 use xv_region::{DeviceKind, Kind, Region};
@@ -93,18 +94,28 @@ pub fn ports_of(printer: &mut Printer, name: &[u8], regions: &[Region])
     }
 }
 
-/// `NAME/DEV`
-#[tactic(auto, using(crate::proofs::ListLemmas::dev_short), unfolding(crate::specs::Lists::port_text))]
+/// The line `NAME/DEV`
 fn port(printer: &mut Printer, name: &[u8], region: &Region)
     requires room { length printer.old + 120 ≤ ROOM }
     requires short { length name.now ≤ 40 }
     ensures text { printer.new ≡ printer.old ++ lists.port_line name.now region.now }
     ensures short { length printer.new ≤ length printer.old + 120 }
 {
+    port_name(printer, name, &region.name);
+    printer.text(b"\n");
+}
+
+/// `NAME/DEV`
+#[tactic(auto, using(crate::proofs::ListLemmas::dev_short), unfolding(crate::specs::Lists::port_text))]
+pub fn port_name(printer: &mut Printer, name: &[u8], dev: &DevName)
+    requires room { length printer.old + 110 ≤ ROOM }
+    requires short { length name.now ≤ 40 }
+    ensures text { printer.new ≡ printer.old ++ lists.port_text name.now dev.now }
+    ensures short { length printer.new ≤ length printer.old + 110 }
+{
     printer.text(name);
     printer.text(b"/");
-    printer.text(region.name.bytes());
-    printer.text(b"\n");
+    printer.text(dev.bytes());
 }
 
 /// How many of these regions are serial ports.
