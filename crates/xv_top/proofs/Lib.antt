@@ -5,6 +5,7 @@ mod PlanLemmas
 mod ManagerLemmas
 mod BirthLemmas
 mod CommandLemmas
+mod Names
 mod ListLemmas
 mod TurnLemmas
 mod RunLemmas

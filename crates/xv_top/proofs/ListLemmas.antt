@@ -1,15 +1,13 @@
 -- The lists of the world's guests and of their serial ports, where at most one guest lives.
-use Rattle.std.proofs.Common.{◌≡◌, ℕ, ◌≤◌, ◌<◌, ◌+◌, Bool, true, false, cond, List, [], ◌∷◌, ◌++◌}
+use Rattle.std.proofs.Common.{◌≡◌, ℕ, ◌<◌, ◌+◌, Bool, true, false, cond, List, [], ◌∷◌, ◌++◌}
 use Rattle.std.proofs.Common.{length, get_or, take, map, Option, Some, None, refl, sym, ap, ◌∙◌}
-use Rattle.std.proofs.Common.{append-nil, leb, ◌&&◌, count_by, IsTrue, arith}
+use Rattle.std.proofs.Common.{append-nil, count_by}
 use Rattle.std.specs.List.{filter, flat_map}
-use Rattle.std.proofs.lemmas.Bool.Decides.{nat_tests}
 use Rattle.std.proofs.lemmas.List.{length-map}
 use Rattle.std.proofs.lemmas.List.Concat.{flat_map-append}
 use Rattle.std.proofs.lemmas.List.Elements.{filter_more}
 use Rattle.std.proofs.lemmas.List.Folds.{flat_map-map}
 use Rattle.std.proofs.lemmas.List.Sums.{length-filter}
-use Rattle.xv_base.specs.Name.{is_dev_name}
 use Rattle.xv_region.specs.declared.plan.Region.{Region}
 use Rattle.xv_guest.specs.Guest.{Guest}
 use Rattle.xv_host.specs.Places.{guest_at}
@@ -20,25 +18,6 @@ use Rattle.xv_top.specs.Lists.{ports_head, ports_of, ports_text}
 use Rattle.xv_top.specs.Manager.{guests_of, live_at, live_guest, world_of}
 use Rattle.xv_top.specs.Texts.{line_end}
 use Rattle.xv_top.specs.World.{LiveGuest}
-
--- ---- lengths
-
-both_left : (a b : Bool) → (a && b) ≡ true → a ≡ true
-both_left true b h = refl
-both_left false b h = cc
-
-both_right : (a b : Bool) → (a && b) ≡ true → b ≡ true
-both_right true b h = h
-both_right false b h = cc
-
-at_most : (n k : ℕ) → leb n k ≡ true → n ≤ k
-at_most n k h = grind (arith, nat_tests)
-
--- the name of a device's node, as its printer takes it
-pub dev_short : (dev : List ℕ) → IsTrue (is_dev_name dev) → length dev ≤ 63
-unfolding is_dev_name
-dev_short dev is =
-    at_most (length dev) 63 (both_right _ _ (both_left _ _ is))
 
 -- ---- serial ports among regions
 

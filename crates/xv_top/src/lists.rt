@@ -106,7 +106,7 @@ fn port(printer: &mut Printer, name: &[u8], region: &Region)
 }
 
 /// `NAME/DEV`
-#[tactic(auto, using(crate::proofs::ListLemmas::dev_short), unfolding(crate::specs::Lists::port_text))]
+#[tactic(auto, using(crate::proofs::Names::dev_short), unfolding(crate::specs::Lists::port_text))]
 pub fn port_name(printer: &mut Printer, name: &[u8], dev: &DevName)
     requires room { length printer.old + 110 ≤ ROOM }
     requires short { length name.now ≤ 40 }
