@@ -1,5 +1,5 @@
 //! The interrupt controller as a device, with the lines of its contexts at hand.
-ghost use Rattle.std.specs.Prelude.{◌≡◌, ◌<◌, ◌≤◌, false};
+ghost use Rattle.std.specs.Prelude.{◌≡◌, ◌≤◌, false};
 ghost use Rattle.xv_base.specs.Bits.{has_bit};
 ghost use Rattle.xv_bus.specs.Plic as plics;
 ghost use Rattle.xv_plic.specs.Registers.{unit_of};
@@ -29,9 +29,8 @@ impl Model for Plic {
 }
 
 impl Plic {
-    /// A controller with that many contexts, 1 to 8, after a reset.
+    /// A controller with that many contexts, at most 8, after a reset.
     pub fn new(contexts: u8) -> Plic
-        requires some { 1 ≤ contexts }
         requires most { contexts ≤ 8 }
         ensures { result ≡ plics.new_plic contexts }
     {
@@ -50,12 +49,12 @@ impl Plic {
         self.lines = self.registers.lines();
     }
 
-    /// Whether the line of a context is up.
+    /// Whether the line of a context is up. That of one that isn't there never is.
     pub fn context_line(&self, context: u8) -> bool
-        requires { context < self.now.contexts }
         ensures { result ≡ plics.context_line self.now context }
     {
-        self.lines[context as usize]
+        let _contexts = self.registers.contexts();
+        context < 8 && self.lines[context as usize]
     }
 
     /// The registers as plain data.

@@ -66,6 +66,7 @@ impl Registers {
     pub fn contexts(&self) -> u8
         ensures contexts { result ≡ self.now.contexts }
         ensures most { result ≤ 8 }
+        ensures held { plics.IsPlic self.now }
     {
         self.contexts
     }
