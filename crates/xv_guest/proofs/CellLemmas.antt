@@ -24,10 +24,10 @@ use Rattle.xv_gstage.specs.Own.{frame_at, frame_of, kind_frames, pages_of, regio
 use Rattle.xv_gstage.proofs.CellsOf.{whole-at}
 use Rattle.xv_gstage.proofs.OwnPages.{lies}
 use Rattle.xv_guest.specs.Frames.{IsInside, bytes_under, hits}
-use Rattle.xv_guest.specs.Held.{HasMemory, HasOrder, Held, IsHeld, Within, memory_of, region_bytes}
+use Rattle.xv_guest.specs.Held.{HasMemory, Held, WithinMemory, memory_of, region_bytes}
 use Rattle.xv_guest.proofs.FrameLemmas.{hits-first, hits-get_or, hits-later}
 use Rattle.xv_guest.proofs.HeldLemmas.{has_enough}
-use Rattle.xv_guest.proofs.LawLemmas.{put_held, put_there, put_within}
+use Rattle.xv_guest.proofs.LawLemmas.{put_there, put_under}
 use Rattle.xv_guest.proofs.MemoryLemmas.{under-held}
 use Rattle.xv_guest.proofs.PutLemmas.{range-append_left, range-append_right}
 
@@ -315,17 +315,10 @@ module _ (bytes : List ℕ) (g : Held) (memory : HasMemory bytes g) (region offs
       ∙ ap (λ (n : ℕ). store_place (memory_of bytes g)
       (record { region = region; offset = n }) piece) here
 
-  pub page_within : Within g bytes (put bytes at piece)
-  page_within =
-      subst (λ (n : ℕ). Within g bytes (put bytes n piece)) host_is
-      (put_within g region (offset / 4096) (at / 4096) under bytes memory (offset % 4096) piece
-      fits)
-
-  pub page_held : HasOrder bytes g → IsHeld (put bytes at piece) g
-  page_held order =
-      subst (λ (n : ℕ). IsHeld (put bytes n piece) g) host_is
-      (put_held g region (offset / 4096) (at / 4096) under bytes memory (offset % 4096) piece
-      fits order)
+  pub page_under : WithinMemory g bytes (put bytes at piece)
+  page_under =
+      subst (λ (n : ℕ). WithinMemory g bytes (put bytes n piece)) host_is
+      (put_under g region (offset / 4096) (at / 4096) under bytes memory (offset % 4096) piece fits)
 
 -- bytes that are read from one page
 pub page_range : (bytes : List ℕ) (g : Held) (memory : HasMemory bytes g) (region offset at : ℕ)

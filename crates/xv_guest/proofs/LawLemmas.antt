@@ -1,5 +1,5 @@
 -- What a store into a guest's memory changes, and what it leaves.
-use Rattle.std.proofs.Common.{◌≡◌, ◌≢◌, ℕ, zero, suc, ◌+◌, ◌*◌, ◌<◌, ◌≤◌, List, [], ◌∷◌}
+use Rattle.std.proofs.Common.{◌≡◌, ℕ, zero, suc, ◌+◌, ◌*◌, ◌<◌, ◌≤◌, List, [], ◌∷◌}
 use Rattle.std.proofs.Common.{length, get_or}
 use Rattle.std.proofs.Common.{sym, subst, arith, Some}
 use Rattle.std.specs.List.{sum_by, slice_get}
@@ -7,17 +7,14 @@ use Rattle.std.proofs.lemmas.List.Sums.{get_or-le-sum_by}
 use Rattle.std.proofs.lemmas.Option.{get_or_from_slice_get, slice_get_within}
 use Rattle.xv_mem.specs.Bytes.{put}
 use Rattle.xv_mem.proofs.Puts.{length-put}
-use Rattle.xv_pte.specs.GStage.{frame_bytes}
 use Rattle.xv_lone.specs.Memory.{store_place}
-use Rattle.xv_gstage.specs.Memory.{SameGround}
-use Rattle.xv_gstage.specs.Own.{frame_at, frame_of, pages_of, region_frames, table_frames}
-use Rattle.xv_guest.specs.Frames.{hits, root_frames}
+use Rattle.xv_gstage.specs.Own.{frame_at, frame_of, region_frames}
+use Rattle.xv_guest.specs.Frames.{hits}
 use Rattle.xv_guest.specs.Held.{Held, holds, memory_of, HasMemory, HasOrder, IsHeld, Within}
-use Rattle.xv_guest.proofs.FrameLemmas.{hits-get_or, hits-take-drop}
-use Rattle.xv_guest.proofs.HeldLemmas.{hits-Contains, root-hits}
-use Rattle.xv_guest.proofs.OrderLemmas.{order_same}
-use Rattle.xv_guest.proofs.ZeroLemmas.{pages-hits}
+use Rattle.xv_guest.specs.Held.{WithinMemory}
+use Rattle.xv_guest.proofs.FrameLemmas.{hits-get_or}
 use Rattle.xv_guest.proofs.MemoryLemmas.{under-held, frame-put_other, lists-put}
+use Rattle.xv_guest.proofs.WithinLemmas.{memory_held, memory_within}
 
 -- a frame that stands at a place of lists
 record IsAt (lists : List (List ℕ)) (i k frame : ℕ) : Type 0 where
@@ -60,15 +57,6 @@ module _ (g : Held) (region index frame : ℕ)
   frame_held : 0 < holds frame g
   frame_held = let some = frame_among in let held = under-held frame g in omega arith
 
-  -- so it is none of the root's or of the tables'
-  frame_apart : holds frame g ≤ 1
-      → (hits frame (root_frames g.root) ≡ 0) × (hits frame (table_frames g.regions g.frames) ≡ 0)
-  frame_apart once =
-      let some = frame_among in
-      let pages = pages-hits frame g.regions g.frames in
-      let parts = hits-take-drop frame (pages_of g.regions) g.frames in
-      (omega arith, omega arith)
-
   module _ (bytes : List ℕ) (memory : HasMemory bytes g) (offset : ℕ) (piece : List ℕ)
       (fits : offset + length piece ≤ 4096) where
     pub put_there : memory_of (put bytes (4096 * frame + offset) piece) g
@@ -84,58 +72,23 @@ module _ (g : Held) (region index frame : ℕ)
         (λ other some. let all = under-held other g in memory.inside other (omega arith))
         (omega arith) at.list at.place at.here
 
-    pub put_within : Within g bytes (put bytes (4096 * frame + offset) piece)
-    put_within =
+    pub put_under : WithinMemory g bytes (put bytes (4096 * frame + offset) piece)
+    put_under =
         let inside = memory.inside frame frame_held in
         record {
           whole = length-put bytes (4096 * frame + offset) piece (omega arith);
           others = λ other within none.
               frame-put_other bytes frame offset piece inside fits other within (λ same.
-              let P : ℕ → Type 0 = λ f. 0 < holds f g in
-              let some = subst P (sym same) frame_held in
+              let P : ℕ → Type 0 =
+              λ f. 0 < sum_by (hits f) (region_frames g.regions g.frames) in
+              let some = subst P (sym same) frame_among in
               omega arith);
         }
 
-    put_memory : HasMemory (put bytes (4096 * frame + offset) piece) g
-    put_memory =
-        let inside = memory.inside frame frame_held in
-        let whole = length-put bytes (4096 * frame + offset) piece (omega arith) in
-        record {
-          once = memory.once;
-          inside = λ other some. let was = memory.inside other some in omega arith;
-          size = memory.size;
-        }
-
-    other_same : (other : ℕ) → 0 < holds other g → other ≢ frame
-        → frame_bytes (put bytes (4096 * frame + offset) piece) other ≡ frame_bytes bytes other
-    other_same other some apart =
-        frame-put_other bytes frame offset piece (memory.inside frame frame_held) fits other
-        (memory.inside other some) apart
-
-    put_ground : SameGround bytes (put bytes (4096 * frame + offset) piece) g.root
-        (table_frames g.regions g.frames)
-    put_ground =
-        let apart = frame_apart (memory.once frame) in
-        record {
-          of_root = λ other is.
-              let some = root-hits other g.root is in
-              other_same other (omega arith) (λ same.
-              let P : ℕ → Type 0 = λ f. 0 < hits f (root_frames g.root) in
-              let here = subst P same some in
-              let none = apart.0 in
-              omega arith);
-          of_list = λ other found.
-              let some = hits-Contains other (table_frames g.regions g.frames) found in
-              let parts = hits-take-drop other (pages_of g.regions) g.frames in
-              other_same other (omega arith) (λ same.
-              let P : ℕ → Type 0 = λ f. 0 < hits f (table_frames g.regions g.frames) in
-              let here = subst P same some in
-              let none = apart.1 in
-              omega arith);
-        }
+    pub put_within : Within g bytes (put bytes (4096 * frame + offset) piece)
+    put_within = memory_within g bytes (put bytes (4096 * frame + offset) piece) put_under
 
     pub put_held : HasOrder bytes g → IsHeld (put bytes (4096 * frame + offset) piece) g
-    put_held order = record {
-      memory = put_memory;
-      order = order_same bytes (put bytes (4096 * frame + offset) piece) g put_ground order;
-    }
+    put_held order =
+        memory_held g bytes (put bytes (4096 * frame + offset) piece) put_under
+        (record { memory = memory; order = order })

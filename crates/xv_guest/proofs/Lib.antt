@@ -2,6 +2,7 @@ pub mod FrameLemmas
 pub mod PutLemmas
 pub mod MemoryLemmas
 pub mod ViewLemmas
+pub mod DeviceLemmas
 pub mod ClearLemmas
 pub mod RangeLemmas
 pub mod HeldLemmas
@@ -9,9 +10,11 @@ pub mod ZeroLemmas
 pub mod TakeLemmas
 pub mod GiveLemmas
 pub mod OrderLemmas
+pub mod WithinLemmas
 pub mod LawLemmas
 pub mod CellLemmas
 pub mod StoreLemmas
+pub mod OwnMemoryLemmas
 pub mod DigestLemmas
 pub mod Examples
 pub mod TestPlan

@@ -9,7 +9,6 @@ use Rattle.std.proofs.lemmas.List.{length-take-le, set-get_or, set-set}
 use Rattle.xv_mem.specs.Bytes.{put, range}
 use Rattle.xv_mem.proofs.Puts.{length-put}
 use Rattle.xv_lone.specs.Memory.{Memory, Place, store_place}
-use Rattle.xv_guest.specs.Held.{Held, Within}
 use Rattle.xv_guest.proofs.PutLemmas.{put-joined, put-none, range-joined}
 
 abbrev pub place : (region offset : ℕ) → Place
@@ -81,20 +80,6 @@ module _ (memory : Memory) (region offset : ℕ) where
       (place region (offset + n)) ys) (sym front)
       ∙ store_joined xs ys (omega arith) (omega arith)
       ∙ ap (store_place memory (place region offset)) (sym (take-add done count bytes))
-
--- ---- what changes nothing else
-
-pub within_none : (g : Held) (bytes : List ℕ) → Within g bytes bytes
-within_none g bytes = record { whole = refl; others = λ frame inside none. refl }
-
-pub within_both : (g : Held) (first middle last : List ℕ) → Within g first middle
-    → Within g middle last → Within g first last
-within_both g first middle last one two = record {
-  whole = two.whole ∙ one.whole;
-  others = λ frame inside none.
-      let same = one.whole in
-      two.others frame (omega arith) none ∙ one.others frame inside none;
-}
 
 -- ---- reads
 

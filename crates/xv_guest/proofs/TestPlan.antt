@@ -1,7 +1,7 @@
 -- The plans of the tests keep the rules, and a guest of one may take of a host in which nobody has
 -- anything, and give it back.
 use Rattle.std.proofs.Common.{◌≡◌, ℕ, ◌+◌, ◌*◌, ◌<◌, ◌≤◌, List, [], ◌∷◌, length, replicate}
-use Rattle.std.proofs.Common.{None, Ok, IsTrue, refl, sym, ap, ◌∙◌, subst, arith}
+use Rattle.std.proofs.Common.{None, Ok, IsTrue, refl, sym, subst, arith}
 use Rattle.std.specs.List.{All, sum_by}
 use Rattle.std.proofs.lemmas.List.Elements.{All-nil}
 use Rattle.xv_base.specs.declared.keys.Span.{Span}
@@ -9,8 +9,9 @@ use Rattle.xv_base.specs.Range.{LiesIn}
 use Rattle.xv_mem.proofs.Puts.{range-replicate}
 use Rattle.xv_pool.specs.FrameList.{up_from}
 use Rattle.xv_pool.specs.Resources.{Resources, fresh, tested}
+use Rattle.xv_region.specs.declared.plan.DeviceKind.TheVariants as devices
 use Rattle.xv_region.specs.declared.plan.Kind.{Kind}
-use Rattle.xv_region.specs.declared.plan.Kind.TheVariants.{Ram, Rom, Alias}
+use Rattle.xv_region.specs.declared.plan.Kind.TheVariants.{Ram, Rom, Alias, Device}
 use Rattle.xv_region.specs.declared.plan.Region.{Region}
 use Rattle.xv_region.specs.Need.{need}
 use Rattle.xv_region.specs.Plan.{flat}
@@ -35,7 +36,7 @@ pub faultless : first_fault area (flat 2).regions ≡ None
 unfolding first_fault fault_from
 faultless = refl
 
--- ---- RAM of two pages, a ROM of one, and an alias of the second page of RAM
+-- ---- RAM of two pages, a ROM of one, an alias of the second page of RAM, and three devices
 
 region : (name : List ℕ) (base size : ℕ) → Kind → Region
 region name base size kind = record { name = name; base = base; size = size; kind = kind }
@@ -45,19 +46,36 @@ mixed name =
     region name 0x8000_0000 0x2000 Ram
     ∷ region name 0x9000_0000 0x1000 Rom
     ∷ region name 0xA000_0000 0x1000 (Alias 0x8000_1000)
+    ∷ region name 0x1000_0000 0x8 (Device (devices.Uart 0 10))
+    ∷ region name 0xC00_0000 0x400_0000 (Device devices.Plic)
+    ∷ region name 0x10_0000 0x1000 (Device devices.Finisher)
     ∷ []
 
-pub mixed_is : (name : List ℕ) (ram rom alias : Region)
+pub mixed_is : (name : List ℕ) (ram rom alias uart plic finisher : Region)
     → ram ≡ record { name = name; base = 0x8000_0000; size = 0x2000; kind = Ram }
     → rom ≡ record { name = name; base = 0x9000_0000; size = 0x1000; kind = Rom }
     → alias ≡ record { name = name; base = 0xA000_0000; size = 0x1000; kind = Alias 0x8000_1000 }
-    → mixed name ≡ ram ∷ rom ∷ alias ∷ []
+    → uart ≡ record {
+      name = name;
+      base = 0x1000_0000;
+      size = 0x8;
+      kind = Device (devices.Uart 0 10);
+    }
+    → plic ≡ record {
+      name = name;
+      base = 0xC00_0000;
+      size = 0x400_0000;
+      kind = Device devices.Plic;
+    }
+    → finisher ≡ record {
+      name = name;
+      base = 0x10_0000;
+      size = 0x1000;
+      kind = Device devices.Finisher;
+    }
+    → mixed name ≡ ram ∷ rom ∷ alias ∷ uart ∷ plic ∷ finisher ∷ []
 unfolding mixed region
-mixed_is name ram rom alias one two three =
-    sym (ap (λ (r : Region). r ∷ rom ∷ alias ∷ []) one
-    ∙ ap (λ (r : Region). region name 0x8000_0000 0x2000 Ram ∷ r ∷ alias ∷ []) two
-    ∙ ap (λ (r : Region). region name 0x8000_0000 0x2000 Ram
-    ∷ region name 0x9000_0000 0x1000 Rom ∷ r ∷ []) three)
+mixed_is name ram rom alias uart plic finisher one two three four five six = cc
 
 pub mixed_sound : (name : List ℕ) → IsTrue (are_sound (mixed name))
 unfolding are_sound mixed region

@@ -1,5 +1,5 @@
 -- VCPUs with reset values are ones between two turns.
-use Rattle.std.proofs.Common.{ℕ, List, map, refl}
+use Rattle.std.proofs.Common.{ℕ, List, map}
 use Rattle.std.specs.List.{All}
 use Rattle.std.proofs.lemmas.List.Elements.{All-map, All-weaker}
 use Rattle.xv_csr.specs.Fields.{IsInstructionAddress}

@@ -1,5 +1,5 @@
 -- What a guest holds of a host, and its memory there.
-use Rattle.std.specs.Prelude.{ℕ, ◌≡◌, ◌+◌, ◌<◌, ◌≤◌, List, [], map, length, get_or}
+use Rattle.std.specs.Prelude.{ℕ, ◌≡◌, ◌+◌, ◌<◌, ◌≤◌, List, [], map, length, get_or, sum_by}
 use Rattle.xv_pte.specs.GStage.{frame_bytes, led}
 use Rattle.xv_region.specs.declared.plan.Region.{Region}
 use Rattle.xv_region.specs.Need.{need}
@@ -56,4 +56,11 @@ Same old new g = (frame : ℕ) → 0 < holds frame g → frame_bytes new frame �
 pub record Within (g : Held) (old new : List ℕ) : Type 0 where
   pub whole : length new ≡ length old
   pub others : (frame : ℕ) → IsInside old frame → holds frame g ≡ 0
+      → frame_bytes new frame ≡ frame_bytes old frame
+
+-- every frame but those under the guest's regions is as before
+pub record WithinMemory (g : Held) (old new : List ℕ) : Type 0 where
+  pub whole : length new ≡ length old
+  pub others : (frame : ℕ) → IsInside old frame
+      → sum_by (hits frame) (region_frames g.regions g.frames) ≡ 0
       → frame_bytes new frame ≡ frame_bytes old frame

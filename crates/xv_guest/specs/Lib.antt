@@ -1,5 +1,9 @@
 pub mod Frames
 pub mod Held
+pub mod Devices
 pub mod Guest
+pub mod OwnMemory
+pub mod State
 pub mod Kept
 pub mod Take
+pub mod Lending

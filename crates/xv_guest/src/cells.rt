@@ -1,23 +1,18 @@
 //! The bytes of a guest's memory, put and read through its frames.
-ghost use Rattle.std.specs.Prelude.{◌≡◌, ◌+◌, ◌-◌, ◌/◌, ◌%◌, ◌^◌, ◌<◌, ◌≤◌, length};
-ghost use Rattle.std.specs.Prelude.{min, is_some, true, false, None, Some};
+ghost use Rattle.std.specs.Prelude.{◌≡◌, ◌+◌, ◌-◌, ◌%◌, ◌^◌, ◌<◌, ◌≤◌, length};
+ghost use Rattle.std.specs.Prelude.{min, is_some, true, false, None, Some, option_map};
 ghost use Rattle.xv_mem.specs.Bytes.{range};
-ghost use Rattle.xv_gstage.specs.Own.{frame_of, pages_of};
 ghost use Rattle.xv_region.specs.Cell.{cell};
-ghost use Rattle.xv_region.specs.Rules.{Accepted};
 ghost use Rattle.xv_lone.specs.Journal.{after_load};
-ghost use Rattle.xv_lone.specs.Memory.{peeked, spot_at, store_place};
-ghost use Rattle.xv_guest.specs.Frames.{IsInside};
+ghost use Rattle.xv_lone.specs.Memory.{bytes_of_spot, peeked, spot_at, spot_of, store_place};
 ghost use Rattle.xv_guest.specs.Guest.{held_of, lone_of};
-ghost use Rattle.xv_guest.specs.Held.{IsHeld, Within, memory_of, region_bytes};
+ghost use Rattle.xv_guest.specs.Held.{IsHeld, Within, WithinMemory, memory_of, region_bytes};
+ghost use Rattle.xv_guest.specs.OwnMemory.{put_at};
 
 use crate::Guest;
-use xv_gstage::frame_of;
+use crate::held::{Held, PAGE};
 use xv_mem::HostMem;
 use xv_region::Cell;
-
-/// Bytes in a page and in a frame.
-pub(crate) const PAGE: u64 = 4096;
 
 /// How many of the `left` bytes from an offset of a region on stand in one page.
 fn piece_len(offset: u64, left: usize) -> usize
@@ -40,6 +35,42 @@ impl Guest {
         ensures held { IsHeld mem.new (held_of self.now) }
         ensures within { Within (held_of self.now) mem.old mem.new }
     {
+        self.held().store(mem, gpa, bytes)
+    }
+
+    /// Shows the bytes of the guest's memory from a guest physical address on, as many as the
+    /// buffer has. It is refused where they don't lie wholly in one region of memory or an alias.
+    pub fn peek(&self, mem: &HostMem, gpa: u64, buf: &mut [u8]) -> bool
+        requires held { IsHeld mem.now (held_of self.now) }
+        ensures bytes { result ≡ true → peeked self.now.plan (lone_of self.now mem.now).memory gpa
+            (length buf.old) ≡ Some buf.new }
+        ensures outside { result ≡ false → peeked self.now.plan (lone_of self.now mem.now).memory
+            gpa (length buf.old) ≡ None }
+        ensures untouched { result ≡ false → buf.new ≡ buf.old }
+    {
+        self.held().peek(mem, gpa, buf)
+    }
+
+    pub(crate) fn held(&self) -> Held<'_>
+        ensures { result ≡ held_of self.now }
+    {
+        Held::new(self.root, self.map(), self.frames())
+    }
+}
+
+impl<'a> Held<'a> {
+    fn store(&self, mem: &mut HostMem, gpa: u64, bytes: &[u8]) -> bool
+        requires held { IsHeld mem.old self.now }
+        ensures inside { result ≡ true
+            → is_some (spot_of (cell self.now.regions gpa (length bytes.now))) ≡ true }
+        ensures outside { result ≡ false
+            → spot_of (cell self.now.regions gpa (length bytes.now)) ≡ None }
+        ensures untouched { result ≡ false → mem.new ≡ mem.old }
+        ensures stored { memory_of mem.new self.now
+            ≡ put_at bytes.now (memory_of mem.old self.now)
+            (cell self.now.regions gpa (length bytes.now)) }
+        ensures within { WithinMemory self.now mem.old mem.new }
+    {
         match self.cell(gpa, bytes.len()) {
             Cell::Memory {
                 region,
@@ -57,14 +88,14 @@ impl Guest {
         }
     }
 
-    /// Shows the bytes of the guest's memory from a guest physical address on, as many as the
-    /// buffer has. It is refused where they don't lie wholly in one region of memory or an alias.
-    pub fn peek(&self, mem: &HostMem, gpa: u64, buf: &mut [u8]) -> bool
-        requires held { IsHeld mem.now (held_of self.now) }
-        ensures bytes { result ≡ true → peeked self.now.plan (lone_of self.now mem.now).memory gpa
-            (length buf.old) ≡ Some buf.new }
-        ensures outside { result ≡ false → peeked self.now.plan (lone_of self.now mem.now).memory
-            gpa (length buf.old) ≡ None }
+    pub(crate) fn peek(&self, mem: &HostMem, gpa: u64, buf: &mut [u8]) -> bool
+        requires held { IsHeld mem.now self.now }
+        ensures bytes { result ≡ true
+            → option_map (bytes_of_spot (memory_of mem.now self.now) (length buf.old))
+            (spot_of (cell self.now.regions gpa (length buf.old))) ≡ Some buf.new }
+        ensures outside { result ≡ false
+            → option_map (bytes_of_spot (memory_of mem.now self.now) (length buf.old))
+            (spot_of (cell self.now.regions gpa (length buf.old))) ≡ None }
         ensures untouched { result ≡ false → buf.new ≡ buf.old }
     {
         match self.cell(gpa, buf.len()) {
@@ -84,26 +115,16 @@ impl Guest {
         }
     }
 
-    /// What bytes at a guest physical address name.
-    fn cell(&self, gpa: u64, len: usize) -> Cell
-        ensures cell { result ≡ cell self.now.plan.regions gpa len }
-        ensures accepted { Accepted self.now.plan.regions }
-    {
-        let _regions = self.map().regions();
-        self.map().cell(gpa, len as u64)
-    }
-
     /// Puts bytes into a region from an offset on, page by page.
-    fn put_bytes(&self, mem: &mut HostMem, region: u8, offset: u64, bytes: &[u8])
-        requires held { IsHeld mem.old (held_of self.now) }
+    pub(crate) fn put_bytes(&self, mem: &mut HostMem, region: u8, offset: u64, bytes: &[u8])
+        requires held { IsHeld mem.old self.now }
         requires inside { offset + length bytes.now
-            ≤ length (region_bytes mem.old (held_of self.now) region) }
+            ≤ length (region_bytes mem.old self.now region) }
         requires small { offset + length bytes.now < 2 ^ 64 }
-        ensures memory { memory_of mem.new (held_of self.now)
-            ≡ store_place (memory_of mem.old (held_of self.now))
+        ensures memory { memory_of mem.new self.now
+            ≡ store_place (memory_of mem.old self.now)
             (record { region = region; offset = offset }) bytes.now }
-        ensures held { IsHeld mem.new (held_of self.now) }
-        ensures within { Within (held_of self.now) mem.old mem.new }
+        ensures within { WithinMemory self.now mem.old mem.new }
     {
         let mut done = 0;
         while done < bytes.len() {
@@ -116,14 +137,13 @@ impl Guest {
 
     /// Puts some bytes into one page of a region.
     fn put_piece(&self, mem: &mut HostMem, region: u8, offset: u64, piece: &[u8])
-        requires held { IsHeld mem.old (held_of self.now) }
-        requires inside { offset < length (region_bytes mem.old (held_of self.now) region) }
+        requires held { IsHeld mem.old self.now }
+        requires inside { offset < length (region_bytes mem.old self.now region) }
         requires fits { offset % 4096 + length piece.now ≤ 4096 }
-        ensures memory { memory_of mem.new (held_of self.now)
-            ≡ store_place (memory_of mem.old (held_of self.now))
+        ensures memory { memory_of mem.new self.now
+            ≡ store_place (memory_of mem.old self.now)
             (record { region = region; offset = offset }) piece.now }
-        ensures held { IsHeld mem.new (held_of self.now) }
-        ensures within { Within (held_of self.now) mem.old mem.new }
+        ensures within { WithinMemory self.now mem.old mem.new }
     {
         let at = self.host_at(mem, region, offset);
         mem.copy_in(at, piece);
@@ -131,12 +151,12 @@ impl Guest {
 
     /// Reads the bytes of a region from an offset on, page by page.
     fn read_bytes(&self, mem: &HostMem, region: u8, offset: u64, buf: &mut [u8])
-        requires held { IsHeld mem.now (held_of self.now) }
+        requires held { IsHeld mem.now self.now }
         requires inside { offset + length buf.old
-            ≤ length (region_bytes mem.now (held_of self.now) region) }
+            ≤ length (region_bytes mem.now self.now region) }
         requires small { offset + length buf.old < 2 ^ 64 }
         ensures { buf.new
-            ≡ range (region_bytes mem.now (held_of self.now) region) offset (length buf.old) }
+            ≡ range (region_bytes mem.now self.now region) offset (length buf.old) }
     {
         let mut done = 0;
         while done < buf.len() {
@@ -149,38 +169,13 @@ impl Guest {
     }
 
     /// The bytes from an offset of a region on that stand in one page.
-    fn piece<'a>(&self, mem: &'a HostMem, region: u8, offset: u64, len: usize) -> &'a [u8]
-        requires held { IsHeld mem.now (held_of self.now) }
-        requires inside { offset < length (region_bytes mem.now (held_of self.now) region) }
+    fn piece<'b>(&self, mem: &'b HostMem, region: u8, offset: u64, len: usize) -> &'b [u8]
+        requires held { IsHeld mem.now self.now }
+        requires inside { offset < length (region_bytes mem.now self.now region) }
         requires fits { offset % 4096 + len ≤ 4096 }
         ensures { result.now
-            ≡ range (region_bytes mem.now (held_of self.now) region) offset len }
+            ≡ range (region_bytes mem.now self.now region) offset len }
     {
         mem.lend(self.host_at(mem, region, offset), len)
-    }
-
-    /// The host address of a byte of a region.
-    fn host_at(&self, mem: &HostMem, region: u8, offset: u64) -> u64
-        requires held { IsHeld mem.now (held_of self.now) }
-        requires inside { offset < length (region_bytes mem.now (held_of self.now) region) }
-        ensures frame { frame_of self.now.plan.regions self.now.frames region (offset / 4096)
-            ≡ Some (result / 4096) }
-        ensures place { result % 4096 ≡ offset % 4096 }
-        ensures inside { IsInside mem.now (result / 4096) }
-    {
-        let Some(frame) = self.frame(region, offset / PAGE) else {
-            unreachable!("the byte has a frame");
-        };
-        let _frames = mem.frames();
-        PAGE * frame + offset % PAGE
-    }
-
-    /// The frame under a page of a region, by the page's index; none past its last page.
-    pub(crate) fn frame(&self, region: u8, index: u64) -> Option<u64>
-        requires room { pages_of self.now.plan.regions ≤ length self.now.frames }
-        ensures frame { result ≡ frame_of self.now.plan.regions self.now.frames region index }
-        ensures accepted { Accepted self.now.plan.regions }
-    {
-        frame_of(self.map().regions(), self.frames(), region, index)
     }
 }

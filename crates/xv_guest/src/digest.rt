@@ -6,10 +6,10 @@ ghost use Rattle.sha2.specs.Sha256.{sha256};
 ghost use Rattle.xv_pte.specs.GStage.{frame_bytes};
 ghost use Rattle.xv_guest.specs.Frames.{IsInside};
 ghost use Rattle.xv_guest.specs.Guest.{held_of, lone_of};
-ghost use Rattle.xv_guest.specs.Held.{IsHeld, region_bytes};
+ghost use Rattle.xv_guest.specs.Held.{IsHeld, memory_of, region_bytes};
 
 use crate::Guest;
-use crate::cells::PAGE;
+use crate::held::{Held, PAGE};
 use sha2::{Digest, Sha256};
 use xv_mem::HostMem;
 
@@ -29,6 +29,15 @@ impl Guest {
         requires held { IsHeld mem.now (held_of self.now) }
         ensures { result ≡ sha256 (concat (lone_of self.now mem.now).memory) }
     {
+        self.held().digest(mem)
+    }
+}
+
+impl<'a> Held<'a> {
+    fn digest(&self, mem: &HostMem) -> [u8; 32]
+        requires held { IsHeld mem.now self.now }
+        ensures { result ≡ sha256 (concat (memory_of mem.now self.now)) }
+    {
         let mut hasher = Sha256::new();
         let count = self.map().regions().len();
         for region in 0..count {
@@ -39,9 +48,9 @@ impl Guest {
 
     /// Feeds the bytes of a region, where it has its own.
     fn feed_region(&self, mem: &HostMem, region: u8, hasher: &mut Sha256)
-        requires held { IsHeld mem.now (held_of self.now) }
+        requires held { IsHeld mem.now self.now }
         ensures { (fed : List ℕ) → Holds256 hasher.old fed → Holds256 hasher.new
-            (fed ++ region_bytes mem.now (held_of self.now) region) }
+            (fed ++ region_bytes mem.now self.now region) }
     {
         let mut index = 0;
         while let Some(frame) = self.frame(region, index) {

@@ -1,17 +1,21 @@
 //! A guest: its plan, its VCPUs and its state, and the numbers of what it holds.
-ghost use Rattle.std.specs.Prelude.{◌≡◌, ℕ, ◌<◌, length, None, Some, true, IfOk, IsTrue, is_some};
-ghost use Rattle.std.specs.Prelude.{slice_get, slice_set};
+ghost use Rattle.std.specs.Prelude.{◌≡◌, ℕ, ◌<◌, ◌≤◌, length, None, Some, true, IfOk, IsTrue};
+ghost use Rattle.std.specs.Prelude.{is_some, slice_get, slice_set};
 ghost use Rattle.std.specs.List.{All};
 ghost use Rattle.xv_csr.specs.Fields.{IsInstructionAddress};
 ghost use Rattle.xv_region.specs.Rules.{are_sound, first_fault};
 ghost use Rattle.xv_pool.specs.Resources.{IsSound};
 ghost use Rattle.xv_gstage.specs.Memory.{IsZero, SameOutside};
 ghost use Rattle.xv_gstage.specs.Own.{table_frames};
+ghost use Rattle.xv_guest.specs.Devices.{HasDevices};
 ghost use Rattle.xv_guest.specs.Guest.{IsView, held_of, lone_of, new_guest, reset_guest};
 ghost use Rattle.xv_guest.specs.Held.{IsHeld, Within, holds, zero_memory};
 ghost use Rattle.xv_guest.specs.Take.{GivesBack, MayGive, MayTake, bare_guest, pool_after};
 ghost use Rattle.xv_guest.specs.Take.{taken_guest};
 
+use crate::device::RegionDevice;
+use crate::device_list;
+use crate::device_list::controller_of;
 use crate::give::{clear_all, give_numbers};
 use crate::take::take_all;
 use crate::views::{reset_all, reset_each};
@@ -29,10 +33,13 @@ use xv_region::{Plan, RegionMap};
 pub struct Guest {
     key: GuestKey,
     plan: Plan,
-    map: RegionMap,
+    pub(crate) map: RegionMap,
     // None where the guest holds nothing
-    root: Option<u8>,
-    frames: Vec<u32>,
+    pub(crate) root: Option<u8>,
+    pub(crate) frames: Vec<u32>,
+    pub(crate) devices: Vec<RegionDevice>,
+    // the region of the interrupt controller
+    pub(crate) controller: Option<usize>,
     vcpus: Vec<VcpuView>,
     state: GuestState,
     birth: u64,
@@ -57,12 +64,15 @@ impl Guest {
         requires sound { IsTrue (are_sound plan.regions) }
         requires faultless { first_fault area plan.regions ≡ None }
         requires starts { All (λ v. IsInstructionAddress v.start) plan.vcpus }
+        requires vcpus { length plan.vcpus ≤ 8 }
         ensures { IfOk result (λ guest. guest ≡ new_guest plan key) }
     {
         let Ok(map) = RegionMap::build(alloc, &plan.regions, area) else {
             return Err(NoMemory);
         };
         let frames = Vec::with_capacity(alloc, map.need() as usize)?;
+        let devices = device_list::make_all(alloc, &plan)?;
+        let controller = controller_of(&plan.regions);
         let vcpus = reset_all(alloc, &plan)?;
         Ok(Guest {
             key,
@@ -70,6 +80,8 @@ impl Guest {
             map,
             root: None,
             frames,
+            devices,
+            controller,
             vcpus,
             state: GuestState::Reset,
             birth: 0,
@@ -113,6 +125,7 @@ impl Guest {
     pub fn plan(&self) -> &Plan
         ensures plan { result.now ≡ self.now.plan }
         ensures vcpus { length self.now.vcpus ≡ length self.now.plan.vcpus }
+        ensures devices { HasDevices self.now.plan self.now.devices }
     {
         &self.plan
     }
@@ -183,12 +196,13 @@ impl Guest {
         self.birth = birth;
     }
 
-    /// Gives every VCPU its reset values. The guest isn't started then; its memory and its birth
-    /// stay.
+    /// Gives every VCPU and every device its reset values. The guest isn't started then; its memory
+    /// and its birth stay.
     pub fn reset(&mut self)
         ensures { self.new ≡ reset_guest self.old }
     {
         reset_each(&mut self.vcpus, &self.plan);
+        device_list::reset_all(&mut self.devices);
         self.state = GuestState::Reset;
     }
 }

@@ -3,10 +3,15 @@
 
 mod cells;
 mod clear;
+mod device;
+mod device_list;
+mod devices;
 mod digest;
 mod give;
 mod guest;
+mod held;
 mod law;
+mod own_memory;
 mod ranges;
 mod take;
 mod views;

@@ -10,6 +10,7 @@ pub mod JoinLemmas
 pub mod ViewLemmas
 pub mod StageLemmas
 pub mod MonitorLemmas
+pub mod EmulateLemmas
 pub mod BegunLemmas
 pub mod SimulationLemmas
 pub mod TurnLemmas

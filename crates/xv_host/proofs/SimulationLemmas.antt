@@ -15,7 +15,8 @@ use Rattle.xv_hcsr.proofs.LineLemmas.{with_lines-software, with_lines-timer, wit
 use Rattle.xv_step.specs.State.{Held as Reservation, State, trapped}
 use Rattle.xv_step.specs.Outcome.{Ask, TableEntry, Target, Plain, Call, Wait, Outcome, Went, Raised}
 use Rattle.xv_step.specs.Outcome.{Left}
-use Rattle.xv_step.specs.Step.{step}
+use Rattle.xv_step.specs.Step.{step, fetched_word}
+use Rattle.xv_step.proofs.AskLemmas.{LeavesWord, step_asks}
 use Rattle.xv_step.proofs.BusLemmas as buses
 use Rattle.xv_step.proofs.BusLemmas.{AreJoined, Nothing}
 use Rattle.xv_step.proofs.NextLemmas.{LeavesNext, step_next, IsRaised, FetchMisaligned, Illegal}
@@ -40,12 +41,13 @@ use Rattle.xv_lone.specs.declared.vcpu.VcpuView.{VcpuView}
 use Rattle.xv_guest.specs.Guest.{Guest, held_of as holdings_of, lone_of, root_or_none}
 use Rattle.xv_guest.specs.Held.{memory_of}
 use Rattle.xv_host.specs.Join.{StandsIn, IsGoodFor}
-use Rattle.xv_host.specs.Monitor.{monitored}
+use Rattle.xv_host.specs.declared.monitor.Progress.TheVariants.{Goes}
+use Rattle.xv_host.specs.Monitor.{TellsAccess, access_by, monitored, word_of}
 use Rattle.xv_host.specs.OnHart.{view_of, on_hart_of, after_of, lines_of_vcpu, with_lines_of}
 use Rattle.xv_host.specs.OnHart.{IsOnHart, MayRun, ReservedStands}
 use Rattle.xv_host.specs.Spots.{place_of}
 use Rattle.xv_host.proofs.JoinLemmas.{joined}
-use Rattle.xv_host.proofs.MonitorLemmas.{monitored_same}
+use Rattle.xv_host.proofs.MonitorLemmas.{monitored_same, tells}
 use Rattle.xv_host.proofs.StageLemmas.{good_first}
 use Rattle.xv_host.proofs.ViewLemmas.{back_is}
 
@@ -239,13 +241,16 @@ module _ (g : Guest) (h t : ℕ) (v : VcpuView) (first : List ℕ) (may : MayRun
     next_is : LeavesNext r.pc (outcome_of r first)
     next_is = step_next (bus_of r first) s (inputs_of r)
 
+    word_is : LeavesWord (bus_of r first) (state_of r first) (outcome_of r first)
+    word_is = step_asks (bus_of r first) s (inputs_of r)
+
     -- the machine with this state of the hart, in host memory
     abbrev after_state : State (List ℕ) ℕ → HartState → After
     after_state u state = goes_on h before (view_of v r Started) (seen u) state
 
     -- the hart's state is put back as the VCPU's view
     after_is : (next : Regs) (now : List ℕ) (state : HartState)
-        → after_of g h v next now state ≡ after_state (state_of next now) state
+        → after_of g h v next now (Goes state) ≡ after_state (state_of next now) state
     after_is next now state = back_is g h v now r next state
 
     module _ (next : Regs) (now : List ℕ) (exit : Exit)
@@ -261,7 +266,7 @@ module _ (g : Guest) (h t : ℕ) (v : VcpuView) (first : List ℕ) (may : MayRun
 
       -- a hart that made its step
       pub done_is : ((trap : HTrap) → exit ≡ Trap trap → ⊥)
-          → after_of g h v next now Started ≡ lone.stepped g.plan h t before (view_of v r Started)
+          → after_of g h v next now (Goes Started) ≡ lone.stepped g.plan h t before (view_of v r Started)
       done_is no_trap =
           after_is next now Started ∙ by_outcome (outcome_of r first) next_is step_is
           ∙ sym lone_is
@@ -277,29 +282,35 @@ module _ (g : Guest) (h t : ℕ) (v : VcpuView) (first : List ℕ) (may : MayRun
           by_outcome (Left ask) _ e =
               absurd (no_trap (trap_of r.user ask) (ap (λ (hs : HStep). hs.exit) e))
 
+      one_trap : (a b : HTrap) → Trap a ≡ Trap b → a ≡ b
+      one_trap a b e = cc
+
+      -- the word at the pc, of what a step comes to
+      abbrev word_in : HStep → Option ℕ
+      word_in hs = fetched_word (stage_bus hs.state.memory (root_of hs.h)) hs.state
+
       -- what the hart left, by what the monitor answers
       pub trap_is : (trap : HTrap) → exit ≡ Trap trap
-          → monitored g.plan h t (on_hart_of g h v next now Started) (view_of v next Started) trap
+          → monitored g.plan h t (on_hart_of g h v next now Started) (view_of v next Started)
+          (word_of next now) trap
           ≡ lone.stepped g.plan h t before (view_of v r Started)
       trap_is trap left =
-          ap (λ (a : After). monitored g.plan h t a.on_hart (view_of v next Started) trap)
-          (after_is next now Started)
-          ∙ by_outcome (outcome_of r first) next_is step_is ∙ sym lone_is
+          ap (λ (a : After). monitored g.plan h t a.on_hart (view_of v next Started)
+          (word_of next now) trap) (after_is next now Started)
+          ∙ by_outcome (outcome_of r first) next_is word_is step_is ∙ sym lone_is
         where
-          one_trap : (a b : HTrap) → Trap a ≡ Trap b → a ≡ b
-          one_trap a b e = cc
-
           by_outcome : (o : Outcome (List ℕ) ℕ) → LeavesNext r.pc o
+              → LeavesWord (bus_of r first) (state_of r first) o
               → came exit next now ≡ exit_of r first o
               → monitored g.plan h t (after_state (state_of next now) Started).on_hart
-              (view_of v next Started) trap
+              (view_of v next Started) (word_of next now) trap
               ≡ lone.after g.plan h t before (view_of v r Started) (seen_outcome o)
-          by_outcome (Went u) _ e = let no : Trap trap ≡ Done =
+          by_outcome (Went u) _ _ e = let no : Trap trap ≡ Done =
               sym left ∙ ap (λ (hs : HStep). hs.exit) e in cc
-          by_outcome (Raised cause tval) is e = let no : Trap trap ≡ Done =
+          by_outcome (Raised cause tval) is _ e = let no : Trap trap ≡ Done =
               sym left
               ∙ ap (λ (hs : HStep). hs.exit) (e ∙ entered r first cause tval formed.guest is) in cc
-          by_outcome (Left ask) is_next e =
+          by_outcome (Left ask) behind of_word e =
               let same : Trap trap ≡ Trap (trap_of r.user ask) =
               sym left ∙ ap (λ (hs : HStep). hs.exit) e in
               ap (λ (hs : HStep). monitored g.plan h t (after_state hs.state Started).on_hart
@@ -308,12 +319,35 @@ module _ (g : Guest) (h t : ℕ) (v : VcpuView) (first : List ℕ) (may : MayRun
                 pc = hs.state.pc;
                 user = hs.state.user;
                 csrs = hs.state.csrs;
-              }) trap) e
-              ∙ (ap (λ (a : After). monitored g.plan h t a.on_hart (view_of v r Started) trap)
-              (sym (after_is r first Started))
-              ∙ ap (monitored g.plan h t before (view_of v r Started))
+              }) (word_in hs) trap) e
+              ∙ (ap (λ (a : After). monitored g.plan h t a.on_hart (view_of v r Started)
+              (word_of r first) trap) (sym (after_is r first Started))
+              ∙ ap (monitored g.plan h t before (view_of v r Started) (word_of r first))
               (one_trap trap (trap_of r.user ask) same)
-              ∙ monitored_same g.plan h t before (view_of v r Started) r.user ask is_next)
+              ∙ monitored_same r first g.plan h t before v ask behind of_word)
+
+      -- and it tells of which access it is
+      pub trap_tells : (trap : HTrap) → exit ≡ Trap trap
+          → TellsAccess (access_by (word_of next now) next.x) trap
+      trap_tells trap left = by_outcome (outcome_of r first) next_is word_is step_is
+        where
+          by_outcome : (o : Outcome (List ℕ) ℕ) → LeavesNext r.pc o
+              → LeavesWord (bus_of r first) (state_of r first) o
+              → came exit next now ≡ exit_of r first o
+              → TellsAccess (access_by (word_of next now) next.x) trap
+          by_outcome (Went u) _ _ e = let no : Trap trap ≡ Done =
+              sym left ∙ ap (λ (hs : HStep). hs.exit) e in absurd cc
+          by_outcome (Raised cause tval) is _ e = let no : Trap trap ≡ Done =
+              sym left
+              ∙ ap (λ (hs : HStep). hs.exit) (e ∙ entered r first cause tval formed.guest is) in
+              absurd cc
+          by_outcome (Left ask) behind of_word e =
+              let same : Trap trap ≡ Trap (trap_of r.user ask) =
+              sym left ∙ ap (λ (hs : HStep). hs.exit) e in
+              subst (λ (hs : HStep). TellsAccess (access_by (word_in hs) hs.state.x) trap) (sym e)
+              (subst (TellsAccess (access_by (word_of r first) r.x))
+              (sym (one_trap trap (trap_of r.user ask) same))
+              (tells r first ask of_word))
 
       -- ---- what stands after it
 

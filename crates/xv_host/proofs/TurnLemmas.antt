@@ -12,29 +12,45 @@ use Rattle.xv_lone.specs.declared.vcpu.HartState.{HartState}
 use Rattle.xv_lone.specs.declared.vcpu.HartState.TheVariants.{Started, Waiting, Suspended, Stopped}
 use Rattle.xv_lone.specs.Machine.{Machine, on_vcpu_of}
 use Rattle.xv_lone.specs.Ready.{may_run}
-use Rattle.xv_lone.specs.Step.{After, On, lone_step, stepped}
+use Rattle.xv_lone.specs.Step.{After, On, Halts, Reboots, lone_step, stepped}
 use Rattle.xv_lone.specs.Trail.{IsTrail, NoPiece, OneMore}
 use Rattle.xv_lone.specs.Turn.{InTurn, Core, begin, woken, woken_vcpu, with_step, one_more}
-use Rattle.xv_lone.specs.Turn.{one_more_of, is_started, iterate, whole_turn, turn, visited}
-use Rattle.xv_lone.specs.Turn.{steps, ending, ending_in, ending_of, ends_as}
+use Rattle.xv_lone.specs.Turn.{one_more_of, is_started, iterate, runs_on, whole_turn, turn}
+use Rattle.xv_lone.specs.Turn.{visited}
+use Rattle.xv_lone.specs.Turn.{steps, ending, ending_of}
+use Rattle.xv_lone.specs.declared.vcpu.TurnEnd.{TurnEnd}
+use Rattle.xv_lone.specs.declared.vcpu.TurnEnd.TheVariants as ends
 use Rattle.xv_lone.proofs.IterateLemmas.{iterate_over, iterate_more, iterate_none}
 use Rattle.xv_lone.specs.declared.vcpu.VcpuView.{VcpuView}
 use Rattle.xv_region.specs.Plan.{Plan}
-use Rattle.xv_guest.specs.Guest.{Guest, lone_of}
-use Rattle.xv_host.specs.OnHart.{view_of, with_view, core_of, on_hart_of, after_of}
-use Rattle.xv_host.specs.OnHart.{regs_of_vcpu, IsBetween, IsTurned, Grows}
+use Rattle.xv_guest.specs.Guest.{Guest, held_of as holdings_of, lone_of, with_machine}
+use Rattle.xv_host.specs.declared.monitor.Progress.{Progress}
+use Rattle.xv_host.specs.declared.monitor.Progress.TheVariants.{Goes, Halts as GuestHalts}
+use Rattle.xv_host.specs.declared.monitor.Progress.TheVariants.{Reboots as GuestReboots}
+use Rattle.xv_host.specs.OnHart.{view_of, with_view, core_of, on_hart_of, after_of, end_of}
+use Rattle.xv_host.specs.OnHart.{regs_of_vcpu, shown_guest, IsBetween, IsOnHart, IsTurned}
+use Rattle.xv_host.specs.OnHart.{Grows, Leaves, MayRun}
 use Rattle.xv_host.proofs.ViewLemmas.{slice_get-set}
 
 -- the guest's turn, with this on the hart and in host memory
-abbrev in_turn : Guest → (h : ℕ) → VcpuView → Regs → List ℕ → List Core → HartState → InTurn
-in_turn g h v r bytes begun state =
-    record { on_hart = on_hart_of g h v r bytes state; onward = On; begun = begun }
+abbrev in_turn : Guest → (h : ℕ) → VcpuView → Regs → List ℕ → List Core → Progress → InTurn
+in_turn g h v r bytes begun p =
+    record {
+      on_hart = (after_of g h v r bytes p).on_hart;
+      onward = (after_of g h v r bytes p).onward;
+      begun = begun;
+    }
 
--- so many steps of the turn are made, and the rest follow
-pub record IsTurning (g : Guest) (h t : ℕ) (v : VcpuView) (first : List ℕ) (made : ℕ) (r : Regs)
-    (bytes : List ℕ) (trail : List Regs) : Type 0 where
+-- how far it is, and how it goes on
+abbrev and_onward : InTurn → After
+and_onward w = record { on_hart = w.on_hart; onward = w.onward }
+
+-- so many steps of the turn that began with guest g are made, and the rest follow
+pub record IsTurning (g : Guest) (h t : ℕ) (v : VcpuView) (first : List ℕ) (now : Guest)
+    (made : ℕ) (r : Regs) (bytes : List ℕ) (trail : List Regs) : Type 0 where
   pub begun : List Core
-  pub rest : iterate (one_more g.plan h t) (1000 - made) (in_turn g h v r bytes begun Started)
+  pub rest : iterate (one_more g.plan h t) (1000 - made)
+      (in_turn now h v r bytes begun (Goes Started))
       ≡ whole_turn g.plan h t (lone_of g first)
   pub pieces : IsTrail core_of begun trail
 
@@ -42,6 +58,27 @@ pub record IsTurning (g : Guest) (h t : ℕ) (v : VcpuView) (first : List ℕ) (
 on_hart_at : (g : Guest) (h : ℕ) (v w : VcpuView) → slice_get g.vcpus h ≡ Some v
     → slice_get (with_view g h w).vcpus h ≡ Some w
 on_hart_at g h v w at = slice_get-set g.vcpus h w (slice_get_within g.vcpus h v at)
+
+-- a guest that halted or rebooted makes no more steps, and its turn ends so
+over_halts : (plan : Plan) (h t : ℕ) (r : InTurn) (o : Option VcpuView) → r.onward ≡ Halts
+    → one_more_of plan h t r o ≡ None
+over_halts plan h t r None halts = refl
+over_halts plan h t r (Some v) halts =
+    cond-false (runs_on r.onward v.hart) _ None (ap (λ w. runs_on w v.hart) halts)
+
+over_reboots : (plan : Plan) (h t : ℕ) (r : InTurn) (o : Option VcpuView) → r.onward ≡ Reboots
+    → one_more_of plan h t r o ≡ None
+over_reboots plan h t r None reboots = refl
+over_reboots plan h t r (Some v) reboots =
+    cond-false (runs_on r.onward v.hart) _ None (ap (λ w. runs_on w v.hart) reboots)
+
+ends_halted : (o : Option VcpuView) → ending_of Halts o ≡ ends.Halted
+ends_halted None = refl
+ends_halted (Some v) = refl
+
+ends_rebooted : (o : Option VcpuView) → ending_of Reboots o ≡ ends.Rebooted
+ends_rebooted None = refl
+ends_rebooted (Some v) = refl
 
 module _ (g : Guest) (h t : ℕ) (v : VcpuView) (first : List ℕ) (at : slice_get g.vcpus h ≡ Some v)
   where
@@ -60,14 +97,15 @@ module _ (g : Guest) (h t : ℕ) (v : VcpuView) (first : List ℕ) (at : slice_g
     }
 
     begins : (clock : ℕ) (interrupt : Bool) → may_run v.hart interrupt ≡ true
-        → begin h (lone_of g first) ≡ in_turn g h v (regs_of_vcpu g h clock v) first [] Started
+        → begin h (lone_of g first)
+        ≡ in_turn g h v (regs_of_vcpu g h clock v) first [] (Goes Started)
     begins clock interrupt may =
         ap (λ (o : Option VcpuView). no_step_yet (on_vcpu_of h woken_vcpu (lone_of g first) o)) at
         ∙ ap (λ (state : HartState). no_step_yet
         (lone_of (with_view g h (record v { hart = state })) first)) (woken_is v.hart interrupt may)
 
     pub turning_starts : (clock : ℕ) (interrupt : Bool) → may_run v.hart interrupt ≡ true
-        → IsTurning g h t v first 0 (regs_of_vcpu g h clock v) first []
+        → IsTurning g h t v first g 0 (regs_of_vcpu g h clock v) first []
     unfolding whole_turn
     turning_starts clock interrupt may = record {
       begun = [];
@@ -75,25 +113,38 @@ module _ (g : Guest) (h t : ℕ) (v : VcpuView) (first : List ℕ) (at : slice_g
       pieces = NoPiece;
     }
 
-    module _ (r next : Regs) (bytes now : List ℕ) (state : HartState)
-        (made_step : after_of g h v next now state
-        ≡ stepped g.plan h t (on_hart_of g h v r bytes Started) (view_of v r Started)) where
+    module _ (here there : Guest) (same : here ≡ record g { devices = here.devices })
+        (r next : Regs) (bytes now : List ℕ) (p : Progress)
+        (made_step : after_of there h v next now p
+        ≡ stepped here.plan h t (on_hart_of here h v r bytes Started) (view_of v r Started)) where
+      here_at : slice_get here.vcpus h ≡ Some v
+      here_at = ap (λ (x : Guest). slice_get x.vcpus h) same ∙ at
+
+      step_is : after_of there h v next now p
+          ≡ stepped g.plan h t (on_hart_of here h v r bytes Started) (view_of v r Started)
+      step_is =
+          made_step
+          ∙ ap (λ (plan : Plan). stepped plan h t (on_hart_of here h v r bytes Started)
+          (view_of v r Started)) (ap (λ (x : Guest). x.plan) same)
+
       -- the hart's step with its answer is one more lone step
-      one_more_is : (begun : List Core) → one_more g.plan h t (in_turn g h v r bytes begun Started)
-          ≡ Some (in_turn g h v next now (begun ++ core_of r ∷ []) state)
+      one_more_is : (begun : List Core)
+          → one_more g.plan h t (in_turn here h v r bytes begun (Goes Started))
+          ≡ Some (in_turn there h v next now (begun ++ core_of r ∷ []) p)
       unfolding lone_step
       one_more_is begun =
-          ap (one_more_of g.plan h t (in_turn g h v r bytes begun Started))
-          (on_hart_at g h v (view_of v r Started) at)
+          ap (one_more_of g.plan h t (in_turn here h v r bytes begun (Goes Started)))
+          (on_hart_at here h v (view_of v r Started) here_at)
           ∙ ap (λ (o : Option VcpuView). option_map
-          (with_step (in_turn g h v r bytes begun Started) (view_of v r Started))
-          (option_map (stepped g.plan h t (on_hart_of g h v r bytes Started)) o))
-          (on_hart_at g h v (view_of v r Started) at)
+          (with_step (in_turn here h v r bytes begun (Goes Started)) (view_of v r Started))
+          (option_map (stepped g.plan h t (on_hart_of here h v r bytes Started)) o))
+          (on_hart_at here h v (view_of v r Started) here_at)
           ∙ ap (λ (a : After). Some
-          (with_step (in_turn g h v r bytes begun Started) (view_of v r Started) a)) (sym made_step)
+          (with_step (in_turn here h v r bytes begun (Goes Started)) (view_of v r Started) a))
+          (sym step_is)
 
       module _ (made : ℕ) (more : made < 1000) (before after : List Regs)
-          (turning : IsTurning g h t v first made r bytes before) (table : ℕ)
+          (turning : IsTurning g h t v first here made r bytes before) (table : ℕ)
           (grows : Grows table r before after) where
         begun_after : List Core
         begun_after = turning.begun ++ core_of r ∷ []
@@ -105,21 +156,22 @@ module _ (g : Guest) (h t : ℕ) (v : VcpuView) (first : List ℕ) (at : slice_g
             (OneMore turning.begun before (core_of r) grows.piece turning.pieces grows.shown)
 
         rest_after : iterate (one_more g.plan h t) (1000 - (made + 1))
-            (in_turn g h v next now begun_after state) ≡ whole_turn g.plan h t (lone_of g first)
+            (in_turn there h v next now begun_after p) ≡ whole_turn g.plan h t (lone_of g first)
         unfolding begun_after
         rest_after =
             sym (iterate_more (one_more g.plan h t) (1000 - (made + 1)) (1000 - made)
-            (in_turn g h v r bytes turning.begun Started)
-            (in_turn g h v next now (turning.begun ++ core_of r ∷ []) state)
+            (in_turn here h v r bytes turning.begun (Goes Started))
+            (in_turn there h v next now (turning.begun ++ core_of r ∷ []) p)
             (one_more_is turning.begun)
             (omega arith))
             ∙ turning.rest
 
-        pub turning_goes_on : state ≡ Started → IsTurning g h t v first (made + 1) next now after
+        pub turning_goes_on : p ≡ Goes Started
+            → IsTurning g h t v first there (made + 1) next now after
         turning_goes_on started = record {
           begun = begun_after;
           rest = ap (λ s. iterate (one_more g.plan h t) (1000 - (made + 1))
-              (in_turn g h v next now begun_after s)) (sym started) ∙ rest_after;
+              (in_turn there h v next now begun_after s)) (sym started) ∙ rest_after;
           pieces = pieces_after;
         }
 
@@ -129,36 +181,51 @@ module _ (g : Guest) (h t : ℕ) (v : VcpuView) (first : List ℕ) (at : slice_g
         not_started Suspended h = refl
         not_started Stopped h = refl
 
-        -- a VCPU that isn't started makes no more steps
-        pub turning_stops : (state ≡ Started → ⊥) → IsTurned g h v t first next now after state
-        turning_stops stopped =
-            let none : one_more g.plan h t (in_turn g h v next now begun_after state) ≡ None =
-            ap (one_more_of g.plan h t (in_turn g h v next now begun_after state))
-            (on_hart_at g h v (view_of v next state) at)
-            ∙ cond-false (is_started state) _ None (not_started state stopped) in
-            let last : in_turn g h v next now begun_after state
+        none_more : (q : Progress) → (q ≡ Goes Started → ⊥) → Leaves q here there
+            → one_more g.plan h t (in_turn there h v next now begun_after q) ≡ None
+        none_more (Goes s) stopped leaves =
+            let there_at : slice_get there.vcpus h ≡ Some v =
+            ap (λ (x : Guest). slice_get x.vcpus h) leaves ∙ here_at in
+            ap (one_more_of g.plan h t (in_turn there h v next now begun_after (Goes s)))
+            (on_hart_at there h v (view_of v next s) there_at)
+            ∙ cond-false (is_started s) _ None
+            (not_started s (λ (e : s ≡ Started). stopped (ap Goes e)))
+        none_more GuestHalts stopped leaves =
+            over_halts g.plan h t (in_turn there h v next now begun_after GuestHalts)
+            (slice_get (with_view there h (view_of v next Started)).vcpus h) refl
+        none_more GuestReboots stopped leaves =
+            over_reboots g.plan h t (in_turn there h v next now begun_after GuestReboots)
+            (slice_get there.vcpus h) refl
+
+        -- a turn that doesn't go on has come to its end
+        pub turning_stops : (p ≡ Goes Started → ⊥) → Leaves p here there
+            → IsTurned g h v t first there next now after p
+        turning_stops stopped leaves =
+            let last : in_turn there h v next now begun_after p
             ≡ whole_turn g.plan h t (lone_of g first) =
             sym (iterate_over (one_more g.plan h t) (1000 - (made + 1))
-            (in_turn g h v next now begun_after state) none) ∙ rest_after in
+            (in_turn there h v next now begun_after p) (none_more p stopped leaves))
+            ∙ rest_after in
             record {
-              on_hart = ap (λ w. w.on_hart) last;
-              onward = ap (λ w. w.onward) last;
+              after = ap (λ (w : InTurn). and_onward w) last;
               pieces = subst (λ cores. IsTrail core_of cores after)
                   (ap (λ w. w.begun) last) pieces_after;
             }
 
-    pub turning_ends : (made : ℕ) (r : Regs) (bytes : List ℕ) (trail : List Regs) → 1000 ≤ made
-        → IsTurning g h t v first made r bytes trail → IsTurned g h v t first r bytes trail Started
-    turning_ends made r bytes trail all turning =
-        let last : in_turn g h v r bytes turning.begun Started
+    pub turning_ends : (now : Guest) (made : ℕ) (r : Regs) (bytes : List ℕ) (trail : List Regs)
+        → 1000 ≤ made → IsTurning g h t v first now made r bytes trail
+        → IsTurned g h v t first now r bytes trail (Goes Started)
+    turning_ends now made r bytes trail all turning =
+        let last : in_turn now h v r bytes turning.begun (Goes Started)
         ≡ whole_turn g.plan h t (lone_of g first) =
-        sym (iterate_none (one_more g.plan h t) (in_turn g h v r bytes turning.begun Started))
-        ∙ (ap (λ n. iterate (one_more g.plan h t) n (in_turn g h v r bytes turning.begun Started))
+        sym (iterate_none (one_more g.plan h t)
+        (in_turn now h v r bytes turning.begun (Goes Started)))
+        ∙ (ap (λ n. iterate (one_more g.plan h t) n
+        (in_turn now h v r bytes turning.begun (Goes Started)))
         (let e : 0 ≡ 1000 - made = omega arith in e)
         ∙ turning.rest) in
         record {
-          on_hart = ap (λ w. w.on_hart) last;
-          onward = ap (λ w. w.onward) last;
+          after = ap (λ (w : InTurn). and_onward w) last;
           pieces = subst (λ cores. IsTrail core_of cores trail) (ap (λ w. w.begun) last)
               turning.pieces;
         }
@@ -174,29 +241,103 @@ pub piece_few : (table : ℕ) (r : Regs) (before after : List Regs) → Grows ta
 piece_few table r before after grows =
     omega (arith, ap length grows.grown, length-append before grows.piece, grows.shown.few)
 
--- what the whole turn gives
-module _ (g : Guest) (h t : ℕ) (v : VcpuView) (first : List ℕ) (r : Regs) (bytes : List ℕ)
-    (trail : List Regs) (state : HartState) (at : slice_get g.vcpus h ≡ Some v)
-    (end : IsTurned g h v t first r bytes trail state) where
-  pub turned_is : lone_of (with_view g h (view_of v r state)) bytes
-      ≡ turn g.plan h t (lone_of g first)
-  unfolding turn
-  turned_is = ap (λ o. o.machine) end.on_hart
+-- ---- what a guest within a turn has of the one that began it
 
-  pub trail_is : IsTrail core_of (visited g.plan h t (lone_of g first)) trail
-  unfolding visited
-  trail_is = end.pieces
+module _ (g now : Guest) (same : now ≡ record g { devices = now.devices }) where
+  pub held_now : holdings_of now ≡ holdings_of g
+  held_now = ap holdings_of same
 
-  pub ending_is : ends_as On state ≡ ending g.plan h t (lone_of g first)
-  unfolding ending
-  ending_is =
-      ap (ending_of On) (sym (on_hart_at g h v (view_of v r state) at))
-      ∙ ap (λ o. ending_in h (record { on_hart = o; onward = On; begun = [] })) end.on_hart
-      ∙ ap (λ w. ending_in h (record {
-        on_hart = (whole_turn g.plan h t (lone_of g first)).on_hart;
-        onward = w;
-        begun = [];
-      })) end.onward
+  pub key_now : now.key ≡ g.key
+  key_now = ap (λ (x : Guest). x.key) same
+
+  pub same_next : (next : Guest) → next ≡ record now { devices = next.devices }
+      → next ≡ record g { devices = next.devices }
+  same_next next is = is ∙ ap (λ (x : Guest). record x { devices = next.devices }) same
+
+  pub leaves_next : (p : Progress) (next : Guest) → Leaves p now next → Leaves p g next
+  leaves_next (Goes state) next is = same_next next is
+  leaves_next GuestHalts next is =
+      is ∙ ap (λ (x : Guest). record x { devices = next.devices; state = next.state }) same
+  leaves_next GuestReboots next is =
+      is
+      ∙ ap (λ (x : Guest). record x {
+        devices = next.devices;
+        vcpus = next.vcpus;
+        state = next.state;
+      }) same
+
+  pub may_now : (h : ℕ) (v : VcpuView) (bytes : List ℕ) → MayRun g h v bytes
+      → MayRun now h v bytes
+  may_now h v bytes may =
+      subst (λ (x : Guest). MayRun x h v bytes) (sym same)
+      (record {
+        held = may.held;
+        accepted = may.accepted;
+        root = may.root;
+        small = may.small;
+        vcpu = may.vcpu;
+        view = may.view;
+      })
+
+  pub on_now : (t : ℕ) (r : Regs) → IsOnHart g t r → IsOnHart now t r
+  on_now t r on =
+      subst (λ (x : Guest). IsOnHart x t r) (sym same)
+      (record { root = on.root; time = on.time; reserved = on.reserved })
+
+  pub on_first : (t : ℕ) (r : Regs) → IsOnHart now t r → IsOnHart g t r
+  on_first t r on =
+      let of_same : IsOnHart (record g { devices = now.devices }) t r =
+      subst (λ (x : Guest). IsOnHart x t r) same on in
+      record { root = of_same.root; time = of_same.time; reserved = of_same.reserved }
+
+-- ---- what the whole turn gives
+
+module _ (g : Guest) (h t : ℕ) (v : VcpuView) (first : List ℕ) (now : Guest) (r : Regs)
+    (bytes : List ℕ) (trail : List Regs) (at : slice_get g.vcpus h ≡ Some v) where
+  shown_is : (p : Progress) → lone_of (shown_guest now h v r p) bytes
+      ≡ (after_of now h v r bytes p).on_hart.machine
+  shown_is (Goes state) = refl
+  shown_is GuestHalts = refl
+  shown_is GuestReboots = refl
+
+  -- the guest is its lone machine, and what it was else
+  pub guest_back : (p : Progress) → Leaves p g now → shown_guest now h v r p
+      ≡ with_machine g (lone_of (shown_guest now h v r p) bytes)
+  guest_back (Goes state) leaves =
+      ap (λ (x : Guest). with_view x h (view_of v r state)) leaves
+      ∙ sym (ap (λ (x : Guest). with_machine g (lone_of (with_view x h (view_of v r state)) bytes))
+      leaves)
+  guest_back GuestHalts leaves =
+      ap (λ (x : Guest). with_view x h (view_of v r Started)) leaves
+      ∙ sym (ap (λ (x : Guest). with_machine g
+      (lone_of (with_view x h (view_of v r Started)) bytes)) leaves)
+  guest_back GuestReboots leaves =
+      leaves ∙ sym (ap (λ (x : Guest). with_machine g (lone_of x bytes)) leaves)
+
+  abbrev ending_in_after : After → TurnEnd
+  ending_in_after a = ending_of a.onward (slice_get a.on_hart.machine.vcpus h)
+
+  end_is : (p : Progress) → Leaves p g now → end_of p
+      ≡ ending_in_after (after_of now h v r bytes p)
+  end_is (Goes state) leaves =
+      ap (ending_of On) (sym (on_hart_at now h v (view_of v r state)
+      (ap (λ (x : Guest). slice_get x.vcpus h) leaves ∙ at)))
+  end_is GuestHalts leaves =
+      sym (ends_halted (slice_get (with_view now h (view_of v r Started)).vcpus h))
+  end_is GuestReboots leaves = sym (ends_rebooted (slice_get now.vcpus h))
+
+  module _ (p : Progress) (end : IsTurned g h v t first now r bytes trail p) where
+    pub turned_is : lone_of (shown_guest now h v r p) bytes ≡ turn g.plan h t (lone_of g first)
+    unfolding turn
+    turned_is = shown_is p ∙ ap (λ (a : After). a.on_hart.machine) end.after
+
+    pub trail_is : IsTrail core_of (visited g.plan h t (lone_of g first)) trail
+    unfolding visited
+    trail_is = end.pieces
+
+    pub ending_is : Leaves p g now → end_of p ≡ ending g.plan h t (lone_of g first)
+    unfolding ending
+    ending_is leaves = end_is p leaves ∙ ap ending_in_after end.after
 
 -- a lone step has an entry or more in the trail
 trail_counts : (cores : List Core) (trail : List Regs) → IsTrail core_of cores trail

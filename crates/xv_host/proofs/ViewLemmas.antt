@@ -15,6 +15,7 @@ use Rattle.xv_hart.specs.declared.regs.Regs.{Regs}
 use Rattle.xv_hart.specs.Step.{after_trap, held_of}
 use Rattle.xv_step.specs.State.{held_as}
 use Rattle.xv_guest.specs.Guest.{held_of as holdings_of}
+use Rattle.xv_host.specs.declared.monitor.Progress.TheVariants.{Goes}
 use Rattle.xv_host.specs.Monitor.{ecall_word}
 use Rattle.xv_host.specs.OnHart.{after_of, lines_of_vcpu, on_hart_of, view_of, with_view}
 use Rattle.xv_host.specs.Spots.{place_of}
@@ -59,7 +60,7 @@ module _ (g : Guest) (h : ℕ) (v : VcpuView) (bytes : List ℕ) where
   }
 
   -- is put back into the machine that it was in
-  pub back_is : (r next : Regs) (state : HartState) → after_of g h v next bytes state
+  pub back_is : (r next : Regs) (state : HartState) → after_of g h v next bytes (Goes state)
       ≡ after_machine next (with_vcpu h (view_of v next state)
       (lone_of (with_view g h (view_of v r Started)) bytes))
   back_is r next state =
@@ -67,33 +68,33 @@ module _ (g : Guest) (h : ℕ) (v : VcpuView) (bytes : List ℕ) where
       (sym (view_again g h bytes (view_of v r Started) (view_of v next state)))
 
   pub fault_back : (r next : Regs) (cause va : ℕ) → next ≡ after_trap cause va r
-      → after_of g h v next bytes Started
+      → after_of g h v next bytes (Goes Started)
       ≡ lone.traps h (on_hart_of g h v r bytes Started) (view_of v r Started) cause va
   fault_back r next cause va is =
-      ap (λ (n : Regs). after_of g h v n bytes Started) is
+      ap (λ (n : Regs). after_of g h v n bytes (Goes Started)) is
       ∙ back_is r (after_trap cause va r) Started
 
   -- a call that SBI doesn't have
   pub call_back : (t n : ℕ) (r : Regs) → n ≡ next_pc r.pc ecall_word → h < length g.vcpus
       → after_of g h v
-      (record r { x = set (set r.x 10 lone.not_supported) 11 0; pc = n }) bytes Started
+      (record r { x = set (set r.x 10 lone.not_supported) 11 0; pc = n }) bytes (Goes Started)
       ≡ lone.calls g.plan h t (on_hart_of g h v r bytes Started) (view_of v r Started)
       (next_pc r.pc ecall_word)
   call_back t n r is within =
       ap (λ (k : ℕ). after_of g h v
-      (record r { x = set (set r.x 10 lone.not_supported) 11 0; pc = k }) bytes Started) is
+      (record r { x = set (set r.x 10 lone.not_supported) 11 0; pc = k }) bytes (Goes Started)) is
       ∙ sym (ap (after_machine r) (on_view g h bytes (view_of v r Started)
       (lone.with_reply (next_pc r.pc ecall_word) lone.not_supported 0) within))
 
   pub wait_back : (t n word : ℕ) (r : Regs) (state : HartState) → n ≡ next_pc r.pc word
       → state ≡ after_wait (pending r.csrs (lines_of_vcpu g h t v))
-      → after_of g h v (record r { pc = n }) bytes state
+      → after_of g h v (record r { pc = n }) bytes (Goes state)
       ≡ lone.waits g.plan h t (on_hart_of g h v r bytes Started) (view_of v r Started)
       (next_pc r.pc word)
   wait_back t n word r state is after =
-      ap (λ (s : HartState). after_of g h v (record r { pc = n }) bytes s) after
+      ap (λ (s : HartState). after_of g h v (record r { pc = n }) bytes (Goes s)) after
       ∙ ap (λ (k : ℕ). after_of g h v (record r { pc = k }) bytes
-      (after_wait (pending r.csrs (lines_of_vcpu g h t v)))) is
+      (Goes (after_wait (pending r.csrs (lines_of_vcpu g h t v))))) is
       ∙ back_is r (record r { pc = next_pc r.pc word })
       (after_wait (pending r.csrs (lines_of_vcpu g h t v)))
 

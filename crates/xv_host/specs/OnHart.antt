@@ -15,14 +15,19 @@ use Rattle.xv_hart.specs.declared.regs.Held as hart
 use Rattle.xv_hart.specs.declared.regs.Regs.{Regs}
 use Rattle.xv_hart.specs.Step as hart_step
 use Rattle.xv_lone.specs.declared.vcpu.HartState.{HartState}
+use Rattle.xv_lone.specs.declared.vcpu.HartState.TheVariants.{Started}
+use Rattle.xv_lone.specs.declared.vcpu.TurnEnd.{TurnEnd}
+use Rattle.xv_lone.specs.declared.vcpu.TurnEnd.TheVariants as ends
 use Rattle.xv_lone.specs.declared.vcpu.VcpuView.{VcpuView}
-use Rattle.xv_lone.specs.Step.{OnHart, After, On, lines_at}
+use Rattle.xv_lone.specs.Step.{OnHart, After, On, Halts, Reboots, lines_at}
 use Rattle.xv_lone.specs.Trail.{IsTrail, IsPiece, most_tries}
 use Rattle.xv_lone.specs.Turn as turns
 use Rattle.xv_lone.specs.Turn.{Core}
 use Rattle.xv_guest.specs.Guest.{Guest, IsView, held_of, lone_of}
 use Rattle.xv_guest.specs.Held.{Held, IsHeld}
 use Rattle.xv_host.specs.Change.{time_of}
+use Rattle.xv_host.specs.declared.monitor.Progress.{Progress}
+use Rattle.xv_host.specs.declared.monitor.Progress.TheVariants as progress
 use Rattle.xv_host.specs.Join.{StandsIn}
 use Rattle.xv_host.specs.Spots.{place_of}
 
@@ -93,18 +98,49 @@ module _ (g : Guest) (h : ℕ) (v : VcpuView) where
     held = held_as (place_of (held_of g)) (hart_step.held_of r.held);
   }
 
-  -- and after a lone step
-  abbrev pub after_of : Regs → List ℕ → HartState → After
-  after_of r bytes state = record { on_hart = on_hart_of r bytes state; onward = On }
+  -- and after a lone step that left it so. A guest that reboots has its VCPUs anew
+  abbrev pub after_of : Regs → List ℕ → Progress → After
+  after_of r bytes (progress.Goes state) =
+      record { on_hart = on_hart_of r bytes state; onward = On }
+  after_of r bytes progress.Halts =
+      record { on_hart = on_hart_of r bytes Started; onward = Halts }
+  after_of r bytes progress.Reboots =
+      record { on_hart = record { machine = lone_of g bytes; held = None }; onward = Reboots }
 
-  -- the turn at guest time t from these host bytes on has come to its end with this on the hart, in
-  -- host memory and in the trail
-  pub record IsTurned (t : ℕ) (first : List ℕ) (r : Regs) (bytes : List ℕ)
-      (trail : List Regs) (state : HartState) : Type 0 where
-    pub on_hart : on_hart_of r bytes state
-        ≡ (turns.whole_turn g.plan h t (lone_of g first)).on_hart
-    pub onward : On ≡ (turns.whole_turn g.plan h t (lone_of g first)).onward
-    pub pieces : IsTrail core_of (turns.whole_turn g.plan h t (lone_of g first)).begun trail
+-- what of the guest a lone step may change: the devices, a halt its state, a reboot its VCPUs too
+abbrev pub Leaves : Progress → (old new : Guest) → Type 0
+Leaves (progress.Goes state) old new = new ≡ record old { devices = new.devices }
+Leaves progress.Halts old new =
+    new ≡ record old { devices = new.devices; state = new.state }
+Leaves progress.Reboots old new =
+    new ≡ record old { devices = new.devices; vcpus = new.vcpus; state = new.state }
+
+-- the guest after a turn that stands so: the VCPU is what the hart shows, but for a reboot's
+abbrev pub IsShown : Progress → Type 0
+IsShown (progress.Goes state) = Unit {0}
+IsShown progress.Halts = Unit {0}
+IsShown progress.Reboots = ⊥
+
+abbrev pub shown_guest : Guest → (h : ℕ) → VcpuView → Regs → Progress → Guest
+shown_guest g h v r (progress.Goes state) = with_view g h (view_of v r state)
+shown_guest g h v r progress.Halts = with_view g h (view_of v r Started)
+shown_guest g h v r progress.Reboots = g
+
+-- how a turn ends that stands so
+abbrev pub end_of : Progress → TurnEnd
+end_of (progress.Goes state) = turns.ends_as On state
+end_of progress.Halts = ends.Halted
+end_of progress.Reboots = ends.Rebooted
+
+-- the turn at guest time t of VCPU h, which was v, from this guest and these host bytes on has come
+-- to its end with this guest, on the hart, in host memory and in the trail
+pub record IsTurned (g : Guest) (h : ℕ) (v : VcpuView) (t : ℕ) (first : List ℕ) (now : Guest)
+    (r : Regs) (bytes : List ℕ) (trail : List Regs) (progress : Progress) : Type 0 where
+  pub after : after_of now h v r bytes progress ≡ record {
+    on_hart = (turns.whole_turn g.plan h t (lone_of g first)).on_hart;
+    onward = (turns.whole_turn g.plan h t (lone_of g first)).onward;
+  }
+  pub pieces : IsTrail core_of (turns.whole_turn g.plan h t (lone_of g first)).begun trail
 
 -- ---- within a turn
 
@@ -123,9 +159,10 @@ pub record IsOnHart (g : Guest) (t : ℕ) (r : Regs) : Type 0 where
 abbrev pub IsBetween : (steps entries : ℕ) → Type 0
 IsBetween steps entries = (steps ≤ entries) × (entries ≤ most_tries * steps)
 
--- the most accesses to host memory of a try of a lone step
+-- the most accesses to host memory of a try of a lone step: 50 of the hart, and a fetch of the
+-- monitor
 abbrev pub most_accesses : ℕ
-most_accesses = 50
+most_accesses = 66
 
 -- the trail got one more piece, of a lone step that began with these registers, behind this root
 -- table alone

@@ -1,5 +1,5 @@
 //! The host: its live guests, and what each holds of host memory.
-ghost use Rattle.std.specs.Prelude.{◌≡◌, ◌≢◌, ℕ, None, Some, IfOk, IfErr, OnOk, OnErr, IsSome};
+ghost use Rattle.std.specs.Prelude.{◌≡◌, ◌≢◌, ◌≤◌, ℕ, None, Some, IfOk, IfErr, OnOk, OnErr, IsSome};
 ghost use Rattle.std.specs.Prelude.{IsTrue, Ok};
 ghost use Rattle.std.specs.Prelude.{replicate, slice_set, length};
 ghost use Rattle.std.specs.List.{All};
@@ -107,6 +107,7 @@ impl Host {
         requires sound { IsTrue (are_sound plan.regions) }
         requires faultless { first_fault machine.old.area plan.regions ≡ None }
         requires starts { All (λ v. IsInstructionAddress v.start) plan.vcpus }
+        requires vcpus { length plan.vcpus ≤ 8 }
         requires area { machine.old.area ≡ self.old.pool.area }
         requires hosted { IsHosted self.old machine.old.mem }
 

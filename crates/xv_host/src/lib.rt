@@ -2,10 +2,12 @@
 #![tactic(auto)]
 
 mod contents;
+mod emulate;
 mod host;
 mod law;
 mod lifecycle;
 mod monitor;
+mod serial;
 mod table;
 mod turn;
 

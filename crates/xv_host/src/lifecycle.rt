@@ -15,8 +15,8 @@ use crate::host::Host;
 use crate::monitor::lines;
 use crate::turn::time_at;
 use xv_base::{GuestKey, VcpuNo};
+use xv_bus::Ending;
 use xv_guest::{Guest, GuestState, HartState};
-use xv_lone::Ending;
 
 /// A command on a guest's state.
 #[derive(Clone, Copy, Debug, PartialEq, Eq)]
@@ -121,7 +121,7 @@ fn apply(guest: &mut Guest, change: Change)
 }
 
 /// Starts the first VCPU of a guest, if it has one.
-fn start_first(guest: &mut Guest)
+pub(crate) fn start_first(guest: &mut Guest)
     ensures started { (bytes : List ℕ) → lone_of guest.new bytes
         ≡ on_vcpu 0 kicked_vcpu (lone_of guest.old bytes) }
     ensures others { guest.new ≡ record guest.old { vcpus = guest.new.vcpus } }

@@ -2,27 +2,33 @@
 ghost use Rattle.std.specs.Prelude.{◌≡◌, ℕ, ◌+◌, ◌^◌, ◌<◌, ◌≤◌, List, length};
 ghost use Rattle.xv_isa.specs.Length.{next_pc};
 ghost use Rattle.xv_hart.specs.Hart.{regs_of, taken_by, trail_of, room_of};
+ghost use Rattle.xv_hart.specs.Memory.{HasMemory};
 ghost use Rattle.xv_hart.specs.Step.{after_trap, IsWellFormed};
+ghost use Rattle.xv_region.specs.Rules.{Accepted};
 ghost use Rattle.xv_guest.specs.Guest.{held_of};
+ghost use Rattle.xv_guest.specs.Held.{IsHeld};
 ghost use Rattle.xv_lone.specs.Step as lone;
 ghost use Rattle.xv_lone.specs.Trail.{most_tries};
 ghost use Rattle.xv_lone.specs.declared.vcpu.HartState.TheVariants as states;
 ghost use Rattle.xv_host.specs.Join.{IsGoodFor};
-ghost use Rattle.xv_host.specs.Monitor.{monitored, ecall_word};
+ghost use Rattle.xv_host.specs.Monitor.{TellsAccess, access_by, monitored, ecall_word, word_of};
 ghost use Rattle.xv_host.specs.OnHart.{after_of, on_hart_of, view_of, lines_of_vcpu};
-ghost use Rattle.xv_host.specs.OnHart.{with_lines_of, Grows, IsOnHart, MayRun, most_accesses};
+ghost use Rattle.xv_host.specs.OnHart.{with_lines_of, Grows, IsOnHart, Leaves, MayRun};
+ghost use Rattle.xv_host.specs.OnHart.{most_accesses};
+ghost use Rattle.xv_host.specs.declared.monitor.Progress.TheVariants as progress;
 
+use crate::emulate::page_fault;
 use std::sync::ledger::Ledger;
 use xv_base::VcpuNo;
 use xv_csr::Lines;
 use xv_csr::cause::{
     ENVIRONMENT_CALL_FROM_VS, INSTRUCTION_ACCESS_FAULT, INSTRUCTION_GUEST_PAGE_FAULT,
-    LOAD_ACCESS_FAULT, LOAD_GUEST_PAGE_FAULT, STORE_ACCESS_FAULT, VIRTUAL_INSTRUCTION,
+    VIRTUAL_INSTRUCTION,
 };
 use xv_guest::{Guest, HartState, VcpuView};
 use xv_hart::{Exit, HTrap, Hart, Machine, Regs};
 use xv_isa::next_pc;
-use xv_mem::Steps;
+use xv_mem::{HostMem, Steps};
 use xv_trap::enter;
 
 // the word of ECALL
@@ -36,85 +42,116 @@ const A0: usize = 10;
 
 const A1: usize = 11;
 
-/// The interrupt lines of a VCPU at a guest time, as they are now. No device raises one yet.
-pub(crate) fn lines(_guest: &Guest, _vcpu: VcpuNo, view: &VcpuView, time: u64) -> Lines
-    ensures { result ≡ lines_of_vcpu _guest.now _vcpu time view.now }
+/// The interrupt lines of a VCPU at a guest time, as they are now.
+pub(crate) fn lines(guest: &Guest, vcpu: VcpuNo, view: &VcpuView, time: u64) -> Lines
+    ensures { result ≡ lines_of_vcpu guest.now vcpu time view.now }
 {
     Lines {
         timer: view.timer <= time,
-        external: false,
+        external: guest.external(vcpu),
     }
 }
 
-/// One lone step, at guest time `time`, of the VCPU that is on the hart, and its hart state after
-/// it. The interrupt lines are those of this moment.
+/// How the turn of a VCPU stands after a lone step.
+#[derive(Clone, Copy)]
+pub(crate) enum Progress {
+    /// The VCPU is in this hart state.
+    Goes(HartState),
+    /// The guest halted.
+    Halts,
+    /// The guest rebooted.
+    Reboots,
+}
+
+/// One lone step, at guest time `time`, of the VCPU that is on the hart. The interrupt lines are
+/// those of this moment.
 pub(crate) fn lone_step<L: Ledger>(
-    guest: &Guest,
+    guest: &mut Guest,
     vcpu: VcpuNo,
     view: &VcpuView,
     machine: &mut Machine,
     time: u64,
     steps: &mut Steps<L>,
-) -> HartState
-    requires may { MayRun guest.now vcpu view.now machine.old.mem }
-    requires on { IsOnHart guest.now time (regs_of machine.old.hart) }
+) -> Progress
+    requires may { MayRun guest.old vcpu view.now machine.old.mem }
+    requires on { IsOnHart guest.old time (regs_of machine.old.hart) }
     requires formed { IsWellFormed (regs_of machine.old.hart) }
     requires room { length (trail_of machine.old.hart) + most_tries ≤ room_of machine.old.hart }
     requires few { taken_by machine.old.hart < 2 ^ 63 }
 
-    ensures stepped { after_of guest.now vcpu view.now
+    ensures stepped { after_of guest.new vcpu view.now
         (regs_of machine.new.hart) machine.new.mem result
-        ≡ lone.stepped guest.now.plan vcpu time (on_hart_of guest.now vcpu view.now
+        ≡ lone.stepped guest.old.plan vcpu time (on_hart_of guest.old vcpu view.now
         (regs_of machine.old.hart) machine.old.mem states.Started)
         (view_of view.now (regs_of machine.old.hart) states.Started) }
-    ensures on { IsOnHart guest.now time (regs_of machine.new.hart) }
+    ensures leaves { Leaves result guest.old guest.new }
+    ensures on { IsOnHart guest.old time (regs_of machine.new.hart) }
     ensures formed { IsWellFormed (regs_of machine.new.hart) }
-    ensures trail { Grows guest.now.key (regs_of machine.old.hart) (trail_of machine.old.hart)
+    ensures trail { Grows guest.old.key (regs_of machine.old.hart) (trail_of machine.old.hart)
         (trail_of machine.new.hart) }
     ensures taken { taken_by machine.new.hart + length (trail_of machine.old.hart)
         ≡ taken_by machine.old.hart + length (trail_of machine.new.hart) }
     ensures room { room_of machine.new.hart ≡ room_of machine.old.hart }
-    ensures good { IsGoodFor (held_of guest.now) machine.old.mem machine.new.mem }
+    ensures good { IsGoodFor (held_of guest.old) machine.old.mem machine.new.mem }
     ensures area { machine.new.area ≡ machine.old.area }
     ensures counted { steps.new ≤ steps.old + most_accesses }
 {
     set_lines(&mut machine.hart, lines(guest, vcpu, view, time));
     let Exit::Trap(trap) = machine.hart.step(&mut machine.mem, steps) else {
-        return HartState::Started;
+        return Progress::Goes(HartState::Started);
     };
     let mut regs = *machine.hart.regs();
-    let state = answer(guest, vcpu, view, &mut regs, time, &trap);
+    let progress = answer(
+        guest,
+        vcpu,
+        view,
+        &mut regs,
+        &mut machine.mem,
+        time,
+        &trap,
+        steps,
+    );
     machine.hart.set_regs(&regs);
-    state
+    progress
 }
 
-/// Answers a trap: a call, a wait, or an access to memory that isn't there.
+/// Answers a trap: a call, a wait, an access to a device, or one to memory that isn't there.
 #[tactic(auto, using(crate::proofs::ViewLemmas::fault_back))]
-fn answer(
-    guest: &Guest,
+fn answer<L: Ledger>(
+    guest: &mut Guest,
     vcpu: VcpuNo,
     view: &VcpuView,
     regs: &mut Regs,
+    mem: &mut HostMem,
     time: u64,
     trap: &HTrap,
-) -> HartState
-    requires number { vcpu < length guest.now.vcpus }
+    steps: &mut Steps<L>,
+) -> Progress
+    requires number { vcpu < length guest.old.vcpus }
     requires formed { IsWellFormed regs.old }
-    ensures monitored { (bytes : List ℕ) → after_of guest.now vcpu view.now regs.new bytes result
-        ≡ monitored guest.now.plan vcpu time
-        (on_hart_of guest.now vcpu view.now regs.old bytes states.Started)
-        (view_of view.now regs.old states.Started) trap.now }
+    requires memory { HasMemory regs.old mem.old }
+    requires held { IsHeld mem.old (held_of guest.old) }
+    requires accepted { Accepted guest.old.plan.regions }
+    requires tells { TellsAccess (access_by (word_of regs.old mem.old) regs.old.x) trap.now }
+    ensures monitored { after_of guest.new vcpu view.now regs.new mem.new result
+        ≡ monitored guest.old.plan vcpu time
+        (on_hart_of guest.old vcpu view.now regs.old mem.old states.Started)
+        (view_of view.now regs.old states.Started) (word_of regs.old mem.old) trap.now }
+    ensures leaves { Leaves result guest.old guest.new }
     ensures time { regs.new.time ≡ regs.old.time }
     ensures h { regs.new.h ≡ regs.old.h }
     ensures held { regs.new.held ≡ regs.old.held }
     ensures formed { IsWellFormed regs.new }
+    ensures good { IsGoodFor (held_of guest.old) mem.old mem.new }
+    ensures counted { steps.new ≤ steps.old + 16 }
 {
     match trap.cause as u64 {
-        ENVIRONMENT_CALL_FROM_VS => call(guest, vcpu, view, regs),
-        VIRTUAL_INSTRUCTION => wait(guest, vcpu, view, regs, time, trap.word),
-        INSTRUCTION_GUEST_PAGE_FAULT => fault(regs, INSTRUCTION_ACCESS_FAULT, trap.tval),
-        LOAD_GUEST_PAGE_FAULT => fault(regs, LOAD_ACCESS_FAULT, trap.tval),
-        _ => fault(regs, STORE_ACCESS_FAULT, trap.tval),
+        ENVIRONMENT_CALL_FROM_VS => Progress::Goes(call(guest, vcpu, view, regs)),
+        VIRTUAL_INSTRUCTION => Progress::Goes(wait(guest, vcpu, view, regs, time, trap.word)),
+        INSTRUCTION_GUEST_PAGE_FAULT => {
+            Progress::Goes(fault(regs, INSTRUCTION_ACCESS_FAULT, trap.tval))
+        }
+        _ => page_fault(guest, vcpu, view, regs, mem, trap, steps),
     }
 }
 
@@ -129,7 +166,8 @@ fn wait(
 ) -> HartState
     requires number { vcpu < length guest.now.vcpus }
     requires formed { IsWellFormed regs.old }
-    ensures waits { (bytes : List ℕ) → after_of guest.now vcpu view.now regs.new bytes result
+    ensures waits { (bytes : List ℕ) →
+        after_of guest.now vcpu view.now regs.new bytes (progress.Goes result)
         ≡ lone.waits guest.now.plan vcpu time
         (on_hart_of guest.now vcpu view.now regs.old bytes states.Started)
         (view_of view.now regs.old states.Started) (next_pc regs.old.pc word) }
@@ -165,7 +203,7 @@ fn call(guest: &Guest, vcpu: VcpuNo, view: &VcpuView, regs: &mut Regs) -> HartSt
     requires number { vcpu < length guest.now.vcpus }
     requires formed { IsWellFormed regs.old }
     ensures calls { (t : ℕ) (bytes : List ℕ) →
-        after_of guest.now vcpu view.now regs.new bytes result
+        after_of guest.now vcpu view.now regs.new bytes (progress.Goes result)
         ≡ lone.calls guest.now.plan vcpu t
         (on_hart_of guest.now vcpu view.now regs.old bytes states.Started)
         (view_of view.now regs.old states.Started) (next_pc regs.old.pc ecall_word) }
@@ -180,7 +218,7 @@ fn call(guest: &Guest, vcpu: VcpuNo, view: &VcpuView, regs: &mut Regs) -> HartSt
 
 // An access fault of the guest, at the instruction that made the access.
 #[tactic(auto, using(xv_hart::proofs::StepLemmas::entered))]
-fn fault(regs: &mut Regs, cause: u64, va: u64) -> HartState
+pub(crate) fn fault(regs: &mut Regs, cause: u64, va: u64) -> HartState
     requires formed { IsWellFormed regs.old }
     ensures started { result ≡ HartState.Started }
     ensures regs { regs.new ≡ after_trap cause va regs.old }

@@ -1,5 +1,5 @@
 //! A turn: lone steps of one VCPU of a guest on the hart.
-ghost use Rattle.std.specs.Prelude.{◌≡◌, ◌+◌, ◌*◌, ◌^◌, ◌<◌, ◌≤◌, length, [], Some, true, IsSome};
+ghost use Rattle.std.specs.Prelude.{◌≡◌, ◌≢◌, ◌+◌, ◌*◌, ◌^◌, ◌<◌, ◌≤◌, length, [], Some, true, false, IsSome};
 ghost use Rattle.std.specs.Prelude.{slice_get};
 ghost use Rattle.std.specs.List.{All};
 ghost use Rattle.xv_hart.specs.Hart.{regs_of, taken_by, trail_of};
@@ -11,18 +11,20 @@ ghost use Rattle.xv_guest.specs.Guest.{IsView, held_of, lone_of, with_machine};
 ghost use Rattle.xv_guest.specs.Held.{IsHeld};
 ghost use Rattle.xv_lone.specs.Journal as journal;
 ghost use Rattle.xv_lone.specs.Ready as ready;
-ghost use Rattle.xv_lone.specs.Step.{On};
 ghost use Rattle.xv_lone.specs.Trail.{IsTrail, most_tries};
 ghost use Rattle.xv_lone.specs.Turn as turns;
 ghost use Rattle.xv_host.specs.Change.{IsChange, OfGuest, time_of, may_turn};
 ghost use Rattle.xv_host.specs.Host.{IsHosted};
 ghost use Rattle.xv_host.specs.Join.{IsGoodFor};
-ghost use Rattle.xv_host.specs.OnHart.{core_of, regs_of_vcpu, view_of, IsBetween, IsTurned};
-ghost use Rattle.xv_host.specs.OnHart.{MayRun, most_accesses};
+ghost use Rattle.xv_host.specs.OnHart.{core_of, end_of, regs_of_vcpu, shown_guest, view_of};
+ghost use Rattle.xv_host.specs.OnHart.{with_view, IsBetween, IsShown, IsTurned};
+ghost use Rattle.xv_lone.specs.declared.vcpu.HartState.TheVariants as states;
+ghost use Rattle.xv_host.specs.OnHart.{Leaves, MayRun, most_accesses};
+ghost use Rattle.xv_host.specs.declared.monitor.Progress.TheVariants as ways;
 ghost use Rattle.xv_host.specs.Places.{guest_at};
 
 use crate::host::Host;
-use crate::monitor::{lines, lone_step};
+use crate::monitor::{Progress, lines, lone_step};
 use std::sync::ledger::Ledger;
 use xv_base::{GuestKey, VcpuNo};
 use xv_guest::{Guest, HartState, VcpuView};
@@ -123,9 +125,32 @@ fn turn_of<L: Ledger>(
     machine
         .hart
         .set_regs(&first_regs(guest, key, vcpu, &view, clock));
-    let state = run(guest, vcpu, &view, machine, clock, steps);
-    guest.set_view(vcpu, &shown_view(&view, machine.hart.regs(), state));
-    end_of(state)
+    let progress = run(guest, vcpu, &view, machine, clock, steps);
+    finish(guest, vcpu, &view, machine, progress);
+    end_of(progress)
+}
+
+/// Makes the VCPU of a guest what the hart shows, unless the guest has rebooted.
+fn finish(guest: &mut Guest, vcpu: VcpuNo, view: &VcpuView, machine: &Machine, progress: Progress)
+    requires number { IsShown progress → vcpu < length guest.old.vcpus }
+    requires formed { IsWellFormed (regs_of machine.now.hart) }
+    ensures { guest.new ≡ shown_guest guest.old vcpu view.now (regs_of machine.now.hart) progress }
+{
+    match progress {
+        Progress::Goes(state) => show(guest, vcpu, view, machine, state),
+        Progress::Halts => show(guest, vcpu, view, machine, HartState::Started),
+        Progress::Reboots => {}
+    }
+}
+
+/// Makes a VCPU of a guest what the hart shows, in a hart state.
+fn show(guest: &mut Guest, vcpu: VcpuNo, view: &VcpuView, machine: &Machine, state: HartState)
+    requires number { vcpu < length guest.old.vcpus }
+    requires formed { IsWellFormed (regs_of machine.now.hart) }
+    ensures { guest.new ≡ with_view guest.old vcpu
+        (view_of view.now (regs_of machine.now.hart) state) }
+{
+    guest.set_view(vcpu, &shown_view(view, machine.hart.regs(), state));
 }
 
 /// The VCPU of a guest that is ready.
@@ -180,52 +205,64 @@ fn shown_view(view: &VcpuView, regs: &Regs, hart: HartState) -> VcpuView
     }
 }
 
-/// Lone steps, as many as a turn may have, or up to one that leaves the VCPU waiting or stopped.
+/// Lone steps, as many as a turn may have, or up to one that leaves the VCPU waiting or stopped, or
+/// the guest halted or rebooted.
 fn run<L: Ledger>(
-    guest: &Guest,
+    guest: &mut Guest,
     vcpu: VcpuNo,
     view: &VcpuView,
     machine: &mut Machine,
     clock: u64,
     steps: &mut Steps<L>,
-) -> HartState
-    requires may { MayRun guest.now vcpu view.now machine.old.mem }
+) -> Progress
+    requires may { MayRun guest.old vcpu view.now machine.old.mem }
     requires ready { ready.may_run view.now.hart (ready.has_interrupt vcpu
-        (time_of guest.now clock) (lone_of guest.now []) view.now) ≡ true }
+        (time_of guest.old clock) (lone_of guest.old []) view.now) ≡ true }
     requires fit { IsFit machine.old }
     requires few { taken_by machine.old.hart < 2 ^ 62 }
-    requires begun { regs_of machine.old.hart ≡ regs_of_vcpu guest.now vcpu clock view.now }
+    requires begun { regs_of machine.old.hart ≡ regs_of_vcpu guest.old vcpu clock view.now }
     requires trail { trail_of machine.old.hart ≡ [] }
 
-    ensures turn { IsTurned guest.now vcpu view.now (time_of guest.now clock) machine.old.mem
-        (regs_of machine.new.hart) machine.new.mem (trail_of machine.new.hart) result }
+    ensures turn { IsTurned guest.old vcpu view.now (time_of guest.old clock) machine.old.mem
+        guest.new (regs_of machine.new.hart) machine.new.mem (trail_of machine.new.hart) result }
+    ensures leaves { Leaves result guest.old guest.new }
     ensures formed { IsWellFormed (regs_of machine.new.hart) }
-    ensures root { All (λ r. root_of r.h ≡ guest.now.key) (trail_of machine.new.hart) }
+    ensures root { All (λ r. root_of r.h ≡ guest.old.key) (trail_of machine.new.hart) }
     ensures taken { taken_by machine.new.hart
         ≡ taken_by machine.old.hart + length (trail_of machine.new.hart) }
     ensures few { length (trail_of machine.new.hart) ≤ most_tries * 1000 }
     ensures counted { steps.new ≤ steps.old + most_accesses * length (trail_of machine.new.hart) }
-    ensures good { IsGoodFor (held_of guest.now) machine.old.mem machine.new.mem }
+    ensures good { IsGoodFor (held_of guest.old) machine.old.mem machine.new.mem }
     ensures area { machine.new.area ≡ machine.old.area }
     ensures fit { IsFit machine.new }
 {
     let time = time_at(guest, clock);
     for _made in 0..TURN_STEPS {
-        match lone_step(guest, vcpu, view, machine, time, steps) {
-            HartState::Started => {}
-            stopped => return stopped,
+        let progress = lone_step(guest, vcpu, view, machine, time, steps);
+        if !is_started(progress) {
+            return progress;
         }
     }
-    HartState::Started
+    Progress::Goes(HartState::Started)
 }
 
-/// How a turn ends that leaves its VCPU so.
-fn end_of(state: HartState) -> TurnEnd
-    ensures { result ≡ turns.ends_as On state }
+/// Whether the turn goes on.
+fn is_started(progress: Progress) -> bool
+    ensures started { result ≡ true → progress ≡ ways.Goes states.Started }
+    ensures ended { result ≡ false → progress ≢ ways.Goes states.Started }
 {
-    match state {
-        HartState::Started => TurnEnd::Spent,
-        HartState::Waiting | HartState::Suspended => TurnEnd::Waits,
-        HartState::Stopped => TurnEnd::Stops,
+    matches!(progress, Progress::Goes(HartState::Started))
+}
+
+/// How a turn ends that stands so.
+fn end_of(progress: Progress) -> TurnEnd
+    ensures { result ≡ end_of progress }
+{
+    match progress {
+        Progress::Goes(HartState::Started) => TurnEnd::Spent,
+        Progress::Goes(HartState::Waiting | HartState::Suspended) => TurnEnd::Waits,
+        Progress::Goes(HartState::Stopped) => TurnEnd::Stops,
+        Progress::Halts => TurnEnd::Halted,
+        Progress::Reboots => TurnEnd::Rebooted,
     }
 }

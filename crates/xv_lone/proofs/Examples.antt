@@ -25,6 +25,8 @@ use Rattle.xv_region.specs.declared.plan.Region.{Region}
 use Rattle.xv_region.specs.declared.plan.VcpuPlan.{VcpuPlan}
 use Rattle.xv_region.specs.Cell.{cell}
 use Rattle.xv_region.specs.Plan.{Plan, flat_base, usual_priority}
+use Rattle.xv_bus.specs.Finisher.{finisher_outcome}
+use Rattle.xv_lone.specs.Device.{after_gateways, external_line, sources_up}
 use Rattle.xv_lone.specs.Machine.{Machine}
 use Rattle.xv_lone.specs.Step.{answered, lone_step}
 use Rattle.xv_lone.specs.declared.vcpu.TurnEnd.{TurnEnd}
@@ -244,9 +246,9 @@ table =
     ∷ (traps (handled 0x00000067), 1 ∷ 0 ∷ 0 ∷ [])
     -- code in memory that can't be written, and a store there
     ∷ (mixed_traps (handled 0x0002b823), 7 ∷ (flat_base + 12) ∷ (flat_base + 32) ∷ [])
-    -- a load and a store of a device that nothing answers yet, and a fetch from a hole
-    ∷ (mixed_traps (handled 0x10002383), 5 ∷ (flat_base + 12) ∷ 0x100 ∷ [])
-    ∷ (mixed_traps (handled 0x10702023), 7 ∷ (flat_base + 12) ∷ 0x100 ∷ [])
+    -- a load and a store of 8 bytes at a device that takes 4, and a fetch from a hole
+    ∷ (mixed_traps (handled 0x10003383), 5 ∷ (flat_base + 12) ∷ 0x100 ∷ [])
+    ∷ (mixed_traps (handled 0x10703023), 7 ∷ (flat_base + 12) ∷ 0x100 ∷ [])
     ∷ (mixed_traps (handled 0x00000067), 1 ∷ 0 ∷ 0 ∷ [])
     -- under Sv39, by a leaf with W and D: a store to memory that can't be written, and a load of a
     -- device
@@ -284,6 +286,7 @@ table =
 
 the_rows : map (λ r. r.0) table ≡ map (λ r. r.1) table
 unfolding region_of vcpu_at plan mixed mixed_shows mixed_traps led led_traps path kind_of cell
+    finisher_outcome after_gateways external_line sources_up
     bytes_of memory_of journal hart_number vcpu_shows vcpu_trap of_machine shows traps bit
     end_number turn_shows end_shows pair pair_shows at_x5 handled table replay ending visited
     answered steps turn whole_turn iterate lone_step step word_at put put_word decode_of row_of rows

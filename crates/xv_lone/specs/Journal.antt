@@ -2,8 +2,9 @@
 use Rattle.std.specs.Prelude.{ℕ, List, [], ◌∷◌, ◌++◌, length, Option, Some, None, option_map}
 use Rattle.xv_step.specs.Bus.{Spot}
 use Rattle.xv_region.specs.Plan.{Plan}
+use Rattle.xv_lone.specs.Device.{after_input, device_dumped, on_device}
 use Rattle.xv_lone.specs.Memory.{Place, spot_at, store_place}
-use Rattle.xv_lone.specs.declared.vcpu.Ending.TheVariants.{Command}
+use Rattle.xv_bus.specs.declared.access.Ending.TheVariants.{Command}
 use Rattle.xv_lone.specs.Machine.{Machine, new_machine, guest_time, kicked, paused, resumed, halted}
 use Rattle.xv_lone.specs.Machine.{reset_at}
 use Rattle.xv_lone.specs.Turn.{turn}
@@ -20,6 +21,10 @@ pub data Change : Type 0 where
   Reset : (clock : ℕ) → Change
   -- the end by a command
   Halt : Change
+  -- bytes that come in at the UART of a region
+  Input : (region : ℕ) (bytes : List ℕ) → Change
+  -- the output that the UART of a region keeps is shown, and kept no more
+  Dump : (region : ℕ) → Change
   -- a turn of a VCPU, at a clock
   Turn : (vcpu clock : ℕ) → Change
 
@@ -45,6 +50,10 @@ after_change plan Pause m = paused m
 after_change plan Resume m = resumed m
 after_change plan (Reset clock) m = reset_at plan clock m
 after_change plan Halt m = halted Command m
+after_change plan (Input region bytes) m =
+    record m { devices = after_input plan.regions region bytes m.devices }
+after_change plan (Dump region) m =
+    record m { devices = on_device region device_dumped m.devices }
 after_change plan (Turn vcpu clock) m = turn plan vcpu (guest_time clock m) m
 
 -- ---- births: the machine begins with its birth, and so does the journal

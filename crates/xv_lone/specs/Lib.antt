@@ -1,4 +1,5 @@
 pub mod Memory
+pub mod Device
 pub mod Vcpu
 pub mod Machine
 pub mod Step

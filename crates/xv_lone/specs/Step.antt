@@ -4,22 +4,32 @@
 -- it may change other VCPUs than the one that asked, halt the guest or reboot it.
 use Rattle.std.specs.Prelude.{ℕ, ◌-◌, ◌^◌, ◌==◌, Bool, true, false, ◌&&◌, nat_le, if◌then◌else◌}
 use Rattle.std.specs.Prelude.{Option, None, option_map, slice_get}
+use Rattle.xv_bus.specs.declared.access.Ending.{Ending}
+use Rattle.xv_bus.specs.declared.access.Outcome as bus
+use Rattle.xv_bus.specs.declared.access.Outcome.TheVariants.{Value, Done, Refused, Halt, Reboot}
+use Rattle.xv_bus.specs.Device.{Accessed}
 use Rattle.xv_csr.specs.declared.Lines.{Lines}
 use Rattle.xv_csr.specs.Pending.{pending}
 use Rattle.xv_pte.specs.declared.access.Kind3.{Kind3}
 use Rattle.xv_step.specs.Bus.{Bus}
 use Rattle.xv_step.specs.State.{Held, State, with_register, at_pc, trapped}
 use Rattle.xv_step.specs.Outcome.{Ask, TableEntry, Target, Plain, Call, Wait, Outcome, Went, Raised}
-use Rattle.xv_step.specs.Outcome.{Left, access_kind, address_of, access_fault}
+use Rattle.xv_step.specs.Outcome.{Left, access_kind, width_of, address_of, access_fault}
 use Rattle.xv_step.specs.Perform.{Inputs}
 use Rattle.xv_step.specs.Step.{step}
-use Rattle.xv_lone.specs.declared.vcpu.Ending.{Ending}
+use Rattle.xv_isa.specs.Effects as effects
+use Rattle.xv_emul.specs.Emulation.{at_bus, written_back}
+use Rattle.xv_region.specs.declared.cell.Cell.{Cell}
+use Rattle.xv_region.specs.declared.cell.Cell.TheVariants as cells
+use Rattle.xv_region.specs.Cell.{cell}
 use Rattle.xv_lone.specs.declared.vcpu.VcpuView.{VcpuView}
 use Rattle.xv_lone.specs.declared.vcpu.HartState.{HartState}
 use Rattle.xv_lone.specs.declared.vcpu.HartState.TheVariants.{Started, Waiting, Stopped}
 use Rattle.xv_region.specs.Plan.{Plan}
+use Rattle.xv_lone.specs.Device.{DeviceState, external_line}
 use Rattle.xv_lone.specs.Memory.{Memory, Place, spot_at, load_place, put_place}
-use Rattle.xv_lone.specs.Machine.{Machine, with_vcpu, on_vcpu, halted, rebooted}
+use Rattle.xv_lone.specs.Machine.{Machine, access_in, after_access, with_vcpu, on_vcpu, halted}
+use Rattle.xv_lone.specs.Machine.{rebooted}
 
 -- ---- the memory of a lone hart
 
@@ -37,13 +47,9 @@ lone_bus plan = record {
 
 -- ---- what comes from outside, at guest time t, for VCPU h of a machine, which is v now
 
--- no device raises a line yet
-abbrev pub external_line : (h : ℕ) → Machine → Bool
-external_line h m = false
-
--- the timer's line is up from the VCPU's compare on
+-- the timer's line is up from the VCPU's compare on, the other one by its interrupt controller
 abbrev pub lines_at : (h t : ℕ) → Machine → VcpuView → Lines
-lines_at h t m v = record { timer = nat_le v.timer t; external = external_line h m }
+lines_at h t m v = record { timer = nat_le v.timer t; external = external_line h m.devices }
 
 abbrev pub inputs_at : (h t : ℕ) → Machine → VcpuView → Inputs
 inputs_at h t m v = record { lines = lines_at h t m v; time = t }
@@ -109,6 +115,39 @@ abbrev pub reboots : Plan → Machine → After
 reboots plan m =
     record { on_hart = record { machine = rebooted plan m; held = None }; onward = Reboots }
 
+-- ---- an access to a device
+
+-- a plain access that memory doesn't serve, of an instruction behind which another stands at next
+module _ (plan : Plan) (h : ℕ) (v : VcpuView) (access : effects.Access) (next : ℕ) where
+  abbrev pub access_faults : OnHart → After
+  access_faults r = traps h r v (access_fault (access_kind access)) (address_of access)
+
+  -- the hart has made its access, which gave this value, and goes on
+  abbrev pub retired : (value : ℕ) → OnHart → State Memory Place
+  retired value r =
+      let s = hart_of r v in at_pc next (record s { x = written_back access value s.x })
+
+  abbrev pub by_outcome : OnHart → bus.Outcome → After
+  by_outcome r (Value value) = goes_on h r v (retired value r) Started
+  by_outcome r Done = goes_on h r v (retired 0 r) Started
+  by_outcome r Refused = access_faults r
+  by_outcome r (Halt ending) = halts h r v ending (retired 0 r)
+  by_outcome r Reboot = reboots plan r.machine
+
+  abbrev pub by_accessed : OnHart → (region : ℕ) → Accessed DeviceState → After
+  by_accessed r region a =
+      by_outcome (record r { machine = after_access plan region a r.machine }) a.outcome
+
+  abbrev pub by_device : OnHart → (region offset : ℕ) → After
+  by_device r region offset =
+      by_accessed r region (access_in plan region offset (at_bus access) r.machine)
+
+  -- memory that a store may not write, and nothing, are access faults
+  abbrev pub by_cell : OnHart → Cell → After
+  by_cell r (cells.Device region offset) = by_device r region offset
+  by_cell r (cells.Memory region offset writable) = access_faults r
+  by_cell r cells.Nothing = access_faults r
+
 -- ---- the answers
 
 -- what SBI makes of a call
@@ -166,11 +205,12 @@ module _ (plan : Plan) (h t : ℕ) (r : OnHart) (v : VcpuView) where
       goes_on h r v (at_pc next (hart_of r v))
       (after_wait (pending v.csrs (lines_at h t r.machine v)))
 
-  -- no device is there yet, so a load or a store that memory doesn't serve faults
+  -- no device is fetched from, reserved or modified at once; nor is a page table read in one
   unfoldable pub answered : Ask → After
   answered (TableEntry access va gpa) = faults access va
   answered (Target access va gpa) = faults access va
-  answered (Plain access gpa next) = faults (access_kind access) (address_of access)
+  answered (Plain access gpa next) =
+      by_cell plan h v access next r (cell plan.regions gpa (width_of access))
   answered (Call next) = calls next
   answered (Wait next) = waits next
 

@@ -3,11 +3,10 @@
 //! engine.
 //!
 //! A VCPU's step is that of `xv_step`'s hart over the cells of the guest's memory; what that hart
-//! asks for is answered here at once. An answer is about the whole machine. No device and no SBI
-//! call is built, so an access that memory doesn't serve is an access fault, and each call from S
-//! answers -2.
+//! asks for is answered here at once, an access to a device by its automaton (`xv_bus`). An answer is
+//! about the whole machine. No SBI call is built, so each call from S answers -2.
 #![tactic(auto)]
 
 mod vcpu;
 
-pub use vcpu::{Ending, GuestState, HartState, TurnEnd, VcpuView};
+pub use vcpu::{GuestState, HartState, TurnEnd, VcpuView};

@@ -1,5 +1,6 @@
 ghost use Rattle.std.specs.Prelude.{◌≡◌};
 
+use xv_bus::Ending;
 use xv_csr::SCsrs;
 
 /// Whether a VCPU's hart runs, in the terms of SBI 1.0, section 9 (hart states). `Waiting` is the
@@ -10,19 +11,6 @@ pub enum HartState {
     Waiting,
     Suspended,
     Stopped,
-}
-
-/// How a guest came to its end.
-#[derive(Clone, Copy, Debug, PartialEq, Eq)]
-pub enum Ending {
-    /// By a command.
-    Command,
-    /// By its own report of success.
-    Pass,
-    /// By its own report of failure, with a code of its choice.
-    Fail(u16),
-    /// By a shutdown of its own.
-    Shutdown,
 }
 
 /// Where a guest stands between its create and its end.

@@ -2,7 +2,6 @@
 use Rattle.std.proofs.Common.{◌≡◌, ℕ, ◌-◌, ◌<◌, Bool, true, false, cond}
 use Rattle.std.proofs.Common.{ltb, eqb, List, [], ◌∷◌, length, set, replicate, Option, Some}
 use Rattle.std.proofs.Common.{None, Ok, Err, Result, refl, sym, ap, ◌∙◌, subst, arith}
-use Rattle.std.specs.List.{list_all}
 use Rattle.std.proofs.lemmas.Bool.{and_parts}
 use Rattle.std.proofs.lemmas.Bool.Decides.{nat_tests}
 use Rattle.std.proofs.lemmas.List.{get_or-set_same, length-map}
@@ -11,7 +10,7 @@ use Rattle.xv_pool.specs.FrameList.{up_from}
 use Rattle.xv_pool.specs.Resources.{tested}
 use Rattle.xv_pool.specs.declared.fault.PoolFault.{PoolFault}
 use Rattle.xv_pool.specs.declared.fault.PoolFault.TheVariants.{NoRoot, NoFrame, ReservedBusy}
-use Rattle.xv_region.specs.Need.{need, is_mapped}
+use Rattle.xv_region.specs.Need.{need}
 use Rattle.xv_region.specs.Plan.{Plan}
 use Rattle.xv_lone.specs.Machine as lone
 use Rattle.xv_guest.specs.Frames.{reserved_ranges}
@@ -101,11 +100,8 @@ module _ (m : Manager) (bytes : List ℕ) (plan : Plan) (hosted : IsHosted m.hos
       (sym (tested_empty m.host bytes hosted empty (need plan.regions)
       (reserved_ranges plan.regions)) ∙ had)
 
-one_vcpu : (plan : Plan) → is_built plan ≡ true → length plan.vcpus ≡ 1
-one_vcpu plan built =
-    let parts = and_parts (list_all (λ r. is_mapped r.kind) plan.regions)
-    (eqb (length plan.vcpus) 1) built in
-    grind (arith, nat_tests, parts.1)
+pub one_vcpu : (plan : Plan) → is_built plan ≡ true → length plan.vcpus ≡ 1
+one_vcpu plan built = grind (arith, nat_tests, built)
 
 first_root : (m : Manager) → least_root (no_guest_of m) ≡ 0
 unfolding up_from

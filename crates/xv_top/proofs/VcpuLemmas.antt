@@ -3,16 +3,26 @@ use Rattle.std.proofs.Common.{◌≡◌, ℕ, zero, suc, Bool, true, false, cond
 use Rattle.std.proofs.Common.{◌∙◌, List, Option, Some, None, option_map, slice_get, subst}
 use Rattle.std.proofs.lemmas.List.{length-set, length-map}
 use Rattle.xv_step.specs.Outcome.{Ask, TableEntry, Target, Plain, Call, Wait, Outcome, Went, Raised}
-use Rattle.xv_step.specs.Outcome.{Left}
+use Rattle.xv_step.specs.Outcome.{Left, width_of}
+use Rattle.xv_isa.specs.Effects as effects
+use Rattle.xv_emul.specs.Emulation.{at_bus}
+use Rattle.xv_bus.specs.declared.access.Outcome as outcomes
+use Rattle.xv_bus.specs.declared.access.Outcome.TheVariants.{Value, Done, Refused, Halt as Halts}
+use Rattle.xv_bus.specs.declared.access.Outcome.TheVariants.{Reboot}
+use Rattle.xv_region.specs.declared.cell.Cell.{Cell}
+use Rattle.xv_region.specs.declared.cell.Cell.TheVariants as cells
+use Rattle.xv_region.specs.Cell.{cell}
 use Rattle.xv_step.specs.Bus.{Spot}
 use Rattle.xv_step.specs.Step.{step}
 use Rattle.xv_region.specs.Plan.{Plan}
 use Rattle.xv_lone.specs.declared.vcpu.VcpuView.{VcpuView}
 use Rattle.xv_lone.specs.Memory.{Memory, Place, spot_at}
-use Rattle.xv_lone.specs.Machine.{Machine, guest_time, on_vcpu_of}
-use Rattle.xv_lone.specs.Journal.{Change, Load, Kick, Pause, Resume, Reset, Halt, Turn, stored_at}
-use Rattle.xv_lone.specs.Journal.{after_change}
-use Rattle.xv_lone.specs.Step.{OnHart, after, answered, inputs_at, hart_of, lone_bus}
+use Rattle.xv_lone.specs.Machine.{Machine, access_in, after_access, guest_time, on_vcpu_of}
+use Rattle.xv_lone.specs.Machine.{reset_parts}
+use Rattle.xv_lone.specs.Journal.{Change, Load, Kick, Pause, Resume, Reset, Halt, Input, Dump, Turn}
+use Rattle.xv_lone.specs.Journal.{after_change, stored_at}
+use Rattle.xv_lone.specs.Step.{OnHart, after, answered, by_cell, by_outcome, inputs_at, hart_of}
+use Rattle.xv_lone.specs.Step.{lone_bus}
 use Rattle.xv_lone.specs.Step.{lone_step, stepped}
 use Rattle.xv_lone.specs.Turn.{InTurn, begin, iterate, or_on, one_more, one_more_of, runs_on}
 use Rattle.xv_lone.specs.Turn.{turn, whole_turn, with_step}
@@ -41,6 +51,29 @@ module _ (plan : Plan) where
   on_vcpu_full h change m None full = full
   on_vcpu_full h change m (Some v) full = length-set m.vcpus h (change v) ∙ full
 
+  -- ---- an access to a device
+
+  module _ (h : ℕ) (v : VcpuView) (access : effects.Access) (next : ℕ) where
+    outcome_full : (r : OnHart) → IsFull r.machine → (o : outcomes.Outcome)
+        → IsFull (by_outcome plan h v access next r o).on_hart.machine
+    outcome_full r full (Value value) = length-set r.machine.vcpus h _ ∙ full
+    outcome_full r full Done = length-set r.machine.vcpus h _ ∙ full
+    outcome_full r full Refused = length-set r.machine.vcpus h _ ∙ full
+    outcome_full r full (Halts ending) = length-set r.machine.vcpus h _ ∙ full
+    outcome_full r full Reboot =
+        let m = reset_parts plan r.machine in
+        on_vcpu_full 0 _ m (slice_get m.vcpus 0) (length-map plan.vcpus _)
+
+    cell_full : (r : OnHart) → IsFull r.machine → (c : Cell)
+        → IsFull (by_cell plan h v access next r c).on_hart.machine
+    cell_full r full (cells.Memory region offset writable) =
+        length-set r.machine.vcpus h _ ∙ full
+    cell_full r full (cells.Device region offset) =
+        let accessed = access_in plan region offset (at_bus access) r.machine in
+        outcome_full (record r { machine = after_access plan region accessed r.machine }) full
+        accessed.outcome
+    cell_full r full cells.Nothing = length-set r.machine.vcpus h _ ∙ full
+
   -- ---- a turn
 
   module _ (h t : ℕ) (r : OnHart) (v : VcpuView) (full : IsFull r.machine) where
@@ -48,7 +81,8 @@ module _ (plan : Plan) where
     unfolding answered
     answered_full (TableEntry access va gpa) = length-set r.machine.vcpus h _ ∙ full
     answered_full (Target access va gpa) = length-set r.machine.vcpus h _ ∙ full
-    answered_full (Plain access gpa next) = length-set r.machine.vcpus h _ ∙ full
+    answered_full (Plain access gpa next) =
+        cell_full h v access next r full (cell plan.regions gpa (width_of access))
     answered_full (Call next) =
         on_vcpu_full h _ r.machine (slice_get r.machine.vcpus h) full
     answered_full (Wait next) = length-set r.machine.vcpus h _ ∙ full
@@ -102,4 +136,6 @@ module _ (plan : Plan) where
   change_full Resume m full = full
   change_full (Reset clock) m full = length-map plan.vcpus _
   change_full Halt m full = full
+  change_full (Input region bytes) m full = full
+  change_full (Dump region) m full = full
   change_full (Turn vcpu clock) m full = turn_full vcpu (guest_time clock m) m full

@@ -1,12 +1,11 @@
 -- The commands by which a guest is born.
-use Rattle.std.specs.Prelude.{ℕ, nat_lt, ◌==◌, Bool, ◌&&◌, if◌then◌else◌, List, [], ◌∷◌, ◌++◌}
+use Rattle.std.specs.Prelude.{ℕ, nat_lt, ◌==◌, Bool, if◌then◌else◌, List, [], ◌∷◌, ◌++◌}
 use Rattle.std.specs.Prelude.{length, is_some, codes, Result, Ok, Err}
-use Rattle.std.specs.List.{list_all}
 use Rattle.xv_outside.specs.Fetch.{FileMap}
 use Rattle.xv_fdt.specs.Fault as fdt
 use Rattle.xv_fdt.specs.Grammar.{tree}
 use Rattle.xv_fdt.specs.Tree.{Entry}
-use Rattle.xv_region.specs.Need.{is_mapped, need}
+use Rattle.xv_region.specs.Need.{need}
 use Rattle.xv_region.specs.Plan.{Plan, flat}
 use Rattle.xv_tree.specs.declared.fault.PlanFault.{PlanFault}
 use Rattle.xv_tree.specs.Plan as trees
@@ -53,9 +52,9 @@ flat_answer w name pages = where_alone w name (admitted w name (flat pages))
 
 -- ---- from a tree
 
--- the plans that are built have one VCPU and no device
+-- the plans that are built have one VCPU
 abbrev pub is_built : Plan → Bool
-is_built plan = list_all (λ r. is_mapped r.kind) plan.regions && length plan.vcpus == 1
+is_built plan = length plan.vcpus == 1
 
 abbrev pub plan_answer : World → List ℕ → Result Plan PlanFault → Answer
 plan_answer w name (Ok plan) =

@@ -9,8 +9,8 @@ use Rattle.xv_region.specs.declared.plan.Kind.{Kind}
 use Rattle.xv_region.specs.declared.plan.Kind.TheVariants.{Ram, Rom, Reserved, Alias, Device}
 use Rattle.xv_region.specs.declared.plan.Region.{Region}
 use Rattle.xv_region.specs.Plan.{Plan}
-use Rattle.xv_lone.specs.declared.vcpu.Ending.{Ending}
-use Rattle.xv_lone.specs.declared.vcpu.Ending.TheVariants.{Command, Pass, Fail, Shutdown}
+use Rattle.xv_bus.specs.declared.access.Ending.{Ending}
+use Rattle.xv_bus.specs.declared.access.Ending.TheVariants.{Command, Pass, Fail, Shutdown}
 use Rattle.xv_lone.specs.declared.vcpu.GuestState.{GuestState}
 use Rattle.xv_lone.specs.declared.vcpu.GuestState.TheVariants.{Reset, Running, Paused, Halted}
 use Rattle.xv_top.specs.Texts.{line_end}

@@ -6,7 +6,8 @@ ghost use Rattle.xv_print.specs.declared.printer.TheConstants.{ROOM};
 ghost use Rattle.xv_top.specs.Lists as lists;
 
 use xv_base::DevName;
-use xv_lone::{Ending, GuestState};
+use xv_bus::Ending;
+use xv_lone::GuestState;
 use xv_print::Printer;
 use xv_region::{DeviceKind, Kind, Region};
 

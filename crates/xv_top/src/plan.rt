@@ -1,7 +1,5 @@
 //! Plans of guests.
 ghost use Rattle.std.specs.Prelude.{◌≡◌, ◌≤◌, codes, IfOk};
-ghost use Rattle.std.specs.List.{list_all};
-ghost use Rattle.xv_region.specs.Need.{is_mapped};
 ghost use Rattle.xv_region.specs.Plan.{flat};
 ghost use Rattle.xv_script.specs.Command.{most_pages};
 ghost use Rattle.xv_top.specs.Births.{is_built};
@@ -50,18 +48,9 @@ fn flat_name() -> DevName
     name
 }
 
-/// Whether guests of that plan are built: it has one VCPU and no device.
+/// Whether guests of that plan are built: it has one VCPU.
 pub fn is_built(plan: &Plan) -> bool
     ensures { result ≡ is_built plan.now }
 {
-    are_memory(&plan.regions) && plan.vcpus.len() == 1
-}
-
-/// Whether memory stands behind all addresses of these regions.
-fn are_memory(regions: &[Region]) -> bool
-    ensures { result ≡ list_all (λ r. is_mapped r.kind) regions.now }
-{
-    regions
-        .iter()
-        .all(|region| !matches!(region.kind, Kind::Device(_)))
+    plan.vcpus.len() == 1
 }

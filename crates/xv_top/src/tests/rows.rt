@@ -85,6 +85,13 @@ const ALIAS_TREE: FileOf = FileOf {
     fills: &[NO_VCPU1, NO_VIRTUAL, NO_PART],
 };
 
+const DEVICE_TREE: FileOf = FileOf {
+    name: b"t",
+    base: Base::Payload,
+    len: 1171,
+    fills: &[NO_VCPU1, NO_ALIAS, NO_PART],
+};
+
 // A function that has a table is proved in time that grows faster than the table, so there are two.
 pub static ROWS: [Row; 18] = [
     Row {
@@ -209,19 +216,20 @@ x4=0000000000000000 x5=0000000000000000 x6=0000000000000000 x7=0000000000000000
         ..PLAIN
     },
     Row {
-        message: "lines that are not built",
+        message: "lines that are not built, and a list in a line without its end",
         script: b"guest pause a
 guest reset a
 guest destroy a
 vserial input a/u 00
 vserial dump a/u
-",
+guest list",
         transcript: &[
             b"refused unbuilt
 refused unbuilt
 refused unbuilt
 refused unbuilt
 refused unbuilt
+guests 0
 ",
         ],
         ..PLAIN
@@ -283,9 +291,26 @@ refused used
         ..PLAIN
     },
     Row {
-        message: "a list of no guests, in a line without its end",
-        script: b"guest list",
-        transcript: &[b"guests 0\n"],
+        message: "a guest with its devices, which ends by its finisher",
+        script: b"guest create a t
+guest poke a 0x80000000 37031000b753000093835355232073006f000000
+guest kick a
+run 1
+guest list
+vserial list
+",
+        files: &[DEVICE_TREE],
+        transcript: &[
+            b"created a vcpus 1 regions 5 frames 2071
+poked a 20
+kicked a
+ran 1 idle 0 now 100
+guests 1
+a halted pass vcpus 1
+vserial 1
+a/uart@10000000
+",
+        ],
         ..PLAIN
     },
     Row {

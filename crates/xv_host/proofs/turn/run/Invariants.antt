@@ -14,16 +14,18 @@ use Rattle.xv_host.proofs.turn.run.Given as goal
 abbrev pub invariant-loop-made : goal.invariant-loop-made
 invariant-loop-made g l =
     let hart = l.machine.hart in
+    let first = l.fn.guest in
     record {
-      turning : IsTurning l.guest l.vcpu l.time l.view l.fn.machine.mem l._made
+      same : l.guest ≡ record first { devices = l.guest.devices };
+      turning : IsTurning first l.vcpu l.time l.view l.fn.machine.mem l.guest l._made
           (regs_of hart) l.machine.mem (trail_of hart);
-      on : IsOnHart l.guest l.time (regs_of hart);
+      on : IsOnHart first l.time (regs_of hart);
       formed : IsWellFormed (regs_of hart);
-      roots : All (λ r. root_of r.h ≡ l.guest.key) (trail_of hart);
+      roots : All (λ r. root_of r.h ≡ first.key) (trail_of hart);
       few : length (trail_of hart) ≤ 13 * l._made;
       taken : taken_by hart ≡ taken_by l.fn.machine.hart + length (trail_of hart);
-      counted : l.steps ≤ l.fn.steps + 50 * length (trail_of hart);
-      good : IsGoodFor (held_of l.guest) l.fn.machine.mem l.machine.mem;
+      counted : l.steps ≤ l.fn.steps + 66 * length (trail_of hart);
+      good : IsGoodFor (held_of first) l.fn.machine.mem l.machine.mem;
       area : l.machine.area ≡ l.fn.machine.area;
       fit : IsFit l.machine;
     }

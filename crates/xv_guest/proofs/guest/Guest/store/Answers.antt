@@ -1,17 +1,20 @@
-use Rattle.std.proofs.Common.{sym, ◌∙◌, arith, length}
+use Rattle.std.proofs.Common.{subst}
 use Rattle.xv_guest.specs.Guest.{held_of}
-use Rattle.xv_guest.proofs.CellLemmas.{cell_inside}
+use Rattle.xv_guest.specs.Held.{Held, WithinMemory}
+use Rattle.xv_guest.proofs.WithinLemmas.{memory_held, memory_within}
 use Rattle.xv_guest.proofs.guest.Guest.store.Goals as goal
 
-pub put_bytes-requires-clause-inside : goal.put_bytes-requires-clause-inside
-put_bytes-requires-clause-inside c =
-    (cell_inside c.args.mem.now (held_of c.args.self.now) c.requires.held.memory
-    c.cell.ensures.accepted c.args.gpa (length c.args.bytes.now) c.in-Memory.region
-    c.in-Memory.offset c.in-Memory.writable (sym c.cell.ensures.cell ∙ c.in-Memory.is)).0
+within : (c : goal.After-store)
+    → WithinMemory (held_of c.args.self.now) c.args.mem.now c.store.new.mem
+within c =
+    subst (λ (g : Held). WithinMemory g c.args.mem.now c.store.new.mem) c.held.ensures
+    c.store.ensures.within
 
-pub put_bytes-requires-clause-small : goal.put_bytes-requires-clause-small
-put_bytes-requires-clause-small c =
-    let bounds = cell_inside c.args.mem.now (held_of c.args.self.now) c.requires.held.memory
-    c.cell.ensures.accepted c.args.gpa (length c.args.bytes.now) c.in-Memory.region
-    c.in-Memory.offset c.in-Memory.writable (sym c.cell.ensures.cell ∙ c.in-Memory.is) in
-    omega (arith, bounds.1)
+pub returns-clause-held : goal.returns-clause-held
+returns-clause-held c =
+    memory_held (held_of c.args.self.now) c.args.mem.now c.store.new.mem (within c)
+    c.requires.held
+
+pub returns-clause-within : goal.returns-clause-within
+returns-clause-within c =
+    memory_within (held_of c.args.self.now) c.args.mem.now c.store.new.mem (within c)

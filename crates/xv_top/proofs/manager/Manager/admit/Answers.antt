@@ -9,7 +9,7 @@ use Rattle.xv_host.specs.declared.host.Admit.TheVariants.{Pool}
 use Rattle.xv_top.specs.Births.{created}
 use Rattle.xv_top.specs.Texts.{created_text, frames_text}
 use Rattle.xv_top.proofs.BirthLemmas.{admitted_alone, birth_sound, birth_world, had_enough, had_few}
-use Rattle.xv_top.proofs.BirthLemmas.{frames_same, is_born, no_frame, no_named, refused_by}
+use Rattle.xv_top.proofs.BirthLemmas.{frames_same, is_born, no_frame, no_named, one_vcpu, refused_by}
 use Rattle.xv_top.proofs.ManagerLemmas.{gives_by, gives_same, gives_text, name_short}
 use Rattle.xv_top.proofs.ManagerLemmas.{no_guest_of, same_none}
 use Rattle.xv_top.specs.Answer.{says}
@@ -19,6 +19,10 @@ use Rattle.xv_top.proofs.manager.Manager.admit.Goals as goal
 pub created-requires-clause-short : goal.created-requires-clause-short
 created-requires-clause-short c =
     name_short c.args.name.now c.bytes.result.now c.bytes.ensures.value c.bytes.ensures.grammar
+
+pub admit-requires-clause-vcpus : goal.admit-requires-clause-vcpus
+admit-requires-clause-vcpus c =
+    let one = one_vcpu c.args.plan c.requires.built in omega arith
 
 pub unreachable-requires : goal.unreachable-requires
 unreachable-requires c =

@@ -1,0 +1,9 @@
+use Rattle.std.proofs.Common.{◌≡◌, map, take, drop, ◌++◌}
+use Rattle.xv_lone.specs.Device.{lifted_by}
+use Rattle.xv_guest.proofs.device_list.lift_all.Given as goal
+
+abbrev pub invariant-loop-number : goal.invariant-loop-number
+invariant-loop-number l =
+    l.devices.items
+    ≡ map (lifted_by l.sources) (take l.number l.initial.devices.items)
+    ++ drop l.number l.initial.devices.items

@@ -1,0 +1,24 @@
+use Rattle.std.proofs.Common.{sym, subst, ap, ◌∙◌}
+use Rattle.std.proofs.Math.Seq.{map-set_same}
+use Rattle.xv_lone.specs.Device.{Absent, Devices, Plic}
+use Rattle.xv_guest.specs.Devices.{IsController, shape_of}
+use Rattle.xv_guest.specs.Guest.{Guest}
+use Rattle.xv_guest.proofs.guest.Guest.plic_mut.Goals as goal
+
+-- a PLIC that is lent stays one
+pub invariant_of-self-lent : goal.invariant_of-self-lent
+invariant_of-self-lent c = λ last.
+    let ds = c.self.inside.devices.items in
+    let P : Devices → Type 0 = λ xs. IsController xs c.args.region in
+    let plic = subst P (sym (ap (λ (g : Guest). g.devices) c.self.view_is)) c.requires.plic in
+    record {
+      map = c.self.invariant.map;
+      starts = c.self.invariant.starts;
+      count = c.self.invariant.count;
+      views = c.self.invariant.views;
+      nothing = c.self.invariant.nothing;
+      devices = map-set_same shape_of ds c.args.region (Plic last) Absent (sym plic)
+          ∙ c.self.invariant.devices;
+      controller = c.self.invariant.controller;
+      room = c.self.invariant.room;
+    }
