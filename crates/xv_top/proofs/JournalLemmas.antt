@@ -21,7 +21,7 @@ use Rattle.xv_gstage.specs.Audit.{mapped_pages}
 use Rattle.xv_lone.specs.Memory.{peeked, spot_at}
 use Rattle.xv_lone.specs.Machine.{Machine, new_machine}
 use Rattle.xv_lone.specs.Ready.{is_reset}
-use Rattle.xv_lone.specs.Journal.{Entry, Born, Changed, Change, Load, Kick, after_change}
+use Rattle.xv_lone.specs.Journal.{Entry, Born, Changed, Change, Load, Kick, Input, after_change}
 use Rattle.xv_lone.specs.Journal.{after_entry, extended, replay, replay_from}
 use Rattle.xv_script.specs.declared.command.Command.{Command}
 use Rattle.xv_script.specs.declared.command.Command.TheVariants as command
@@ -34,11 +34,11 @@ use Rattle.xv_top.specs.Births.{admitted, where_alone, is_built, plan_answer, tr
 use Rattle.xv_top.specs.Births.{create_answer}
 use Rattle.xv_top.specs.Contents.{put_into, load_bytes, load_guest, mem_of}
 use Rattle.xv_top.specs.Commands.{answer, clock_answer, tick_answer, regs_of_vcpu, run_answer}
-use Rattle.xv_top.specs.Commands.{unbuilt}
+use Rattle.xv_top.specs.Commands.{by_port, input_at, room_at, unbuilt}
 use Rattle.xv_top.specs.Files.{file_of, most_tree, most_image}
 use Rattle.xv_top.specs.Texts.{frames_text, regs_text, tree_text, plan_text, mem_text}
 use Rattle.xv_top.specs.Texts.{digest_text, audit_text, clock_text}
-use Rattle.xv_top.specs.Lists.{guests_text, ports_of, ports_text}
+use Rattle.xv_top.specs.Lists.{full_text, guests_text, ports_of, ports_text, uart_named}
 use Rattle.xv_top.specs.Transcript.{world_after}
 use Rattle.xv_top.specs.Journals.{journal_from, journal_of, entries_by, AreReplayed}
 
@@ -248,6 +248,18 @@ module _ (es : List GuestEntry) (w : World) (h : AreReplayed es w.guests) where
   regs_replayed name vcpu None = same_replayed (refused w (codes "vcpu")) refl refl
   regs_replayed name vcpu (Some v) = says_replayed (regs_text name vcpu v)
 
+  port_replayed : (next : ℕ → Answer) (o : Option ℕ)
+      → ((region : ℕ) → AnswerReplayed es (next region)) → AnswerReplayed es (by_port w next o)
+  port_replayed next None follows = same_replayed (refused w (codes "device")) refl refl
+  port_replayed next (Some region) follows = follows region
+
+  input_replayed : (name dev bytes : List ℕ) (g : LiveGuest) (region : ℕ)
+      → AnswerReplayed es (input_at w name dev bytes g region)
+  input_replayed name dev bytes g region =
+      cond_both (ltb (room_at g region) (length bytes)) _ _ (AnswerReplayed es)
+      (λ _. says_replayed (full_text (room_at g region)))
+      (λ _. all_replayed name (Input region bytes) es w.guests h)
+
   clock_replayed : (value : ℕ) → AnswerReplayed es (clock_answer w value)
   clock_replayed value =
       cond_both (ltb value w.clock) _ _ (AnswerReplayed es)
@@ -288,7 +300,9 @@ module _ (es : List GuestEntry) (w : World) (h : AreReplayed es w.guests) where
       there_replayed _ (guest_named name w)
       (λ g. says_replayed (audit_text name (sum_by mapped_pages g.plan.regions)))
   answer_replayed files command.List = says_replayed (guests_text w.guests)
-  answer_replayed files (command.Input name port bytes) = same_replayed (unbuilt w) refl refl
+  answer_replayed files (command.Input name dev bytes) =
+      there_replayed _ (guest_named name w) (λ g. port_replayed (input_at w name dev bytes g)
+      (uart_named dev g.plan) (input_replayed name dev bytes g))
   answer_replayed files (command.Dump name port) = same_replayed (unbuilt w) refl refl
   answer_replayed files command.Ports = says_replayed (ports_text (flat_map ports_of w.guests))
   answer_replayed files (command.Clock value) = clock_replayed value

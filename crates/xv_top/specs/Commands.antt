@@ -11,7 +11,10 @@ use Rattle.xv_script.specs.declared.command.Command.TheVariants as command
 use Rattle.xv_top.specs.Answer.{Answer, says, refused, changes, where_there, where_reset}
 use Rattle.xv_top.specs.Births.{create_answer, flat_answer}
 use Rattle.xv_top.specs.Contents.{load_guest, poke_guest, mem_guest, digest_guest, audit_guest}
-use Rattle.xv_top.specs.Lists.{guests_text, ports_of, ports_text}
+use Rattle.xv_base.specs.Serial.{queue_room}
+use Rattle.xv_lone.specs.Device.{device_at, serial_of}
+use Rattle.xv_top.specs.Lists.{full_text, guests_text, input_text, ports_of, ports_text}
+use Rattle.xv_top.specs.Lists.{uart_named}
 use Rattle.xv_top.specs.Texts.{clock_text, kicked_text, ran_text, regs_text, tick_text}
 use Rattle.xv_top.specs.World.{LiveGuest, World, RunSoFar, most_turns, guest_named, run_of}
 
@@ -35,6 +38,28 @@ list_answer w = says w (guests_text w.guests)
 -- `vserial list`: of each guest, in order of creation
 abbrev pub ports_answer : World → Answer
 ports_answer w = says w (ports_text (flat_map ports_of w.guests))
+
+-- what follows where the guest has a serial port of that name, by its region
+abbrev pub by_port : World → (ℕ → Answer) → Option ℕ → Answer
+by_port w next None = refused w (codes "device")
+by_port w next (Some region) = next region
+
+abbrev pub at_port : World → (dev : List ℕ) → (LiveGuest → ℕ → Answer) → LiveGuest → Answer
+at_port w dev next g = by_port w (next g) (uart_named dev g.plan)
+
+-- how many bytes more may come in at the UART of a region
+abbrev pub room_at : LiveGuest → (region : ℕ) → ℕ
+room_at g region = queue_room (serial_of (device_at g.machine.devices region))
+
+-- `vserial input`: all bytes come in, or none
+abbrev pub input_at : World → (name dev bytes : List ℕ) → LiveGuest → (region : ℕ) → Answer
+input_at w name dev bytes g region =
+    if nat_lt (room_at g region) (length bytes)
+    then says w (full_text (room_at g region))
+    else changes w name (change.Input region bytes) (input_text name dev (length bytes))
+
+abbrev pub input_guest : World → (name dev bytes : List ℕ) → Option LiveGuest → Answer
+input_guest w name dev bytes o = where_there w (at_port w dev (input_at w name dev bytes)) o
 
 -- `clock`, which doesn't go back
 abbrev pub clock_answer : World → ℕ → Answer
@@ -82,7 +107,8 @@ answer files w (command.Mem name gpa len) = mem_guest w name gpa len (guest_name
 answer files w (command.Digest name) = digest_guest w name (guest_named name w)
 answer files w (command.Audit name) = audit_guest w name (guest_named name w)
 answer files w command.List = list_answer w
-answer files w (command.Input name port bytes) = unbuilt w
+answer files w (command.Input name port bytes) =
+    input_guest w name port bytes (guest_named name w)
 answer files w (command.Dump name port) = unbuilt w
 answer files w command.Ports = ports_answer w
 answer files w (command.Clock value) = clock_answer w value

@@ -73,6 +73,15 @@ uart_named dev plan = position (λ r. is_port r && bytes_eq r.name dev) plan.reg
 unfoldable pub port_text : (name dev : List ℕ) → List ℕ
 port_text name dev = name ++ codes "/" ++ dev
 
+-- so many bytes came in
+unfoldable pub input_text : (name dev : List ℕ) → (count : ℕ) → List ℕ
+input_text name dev count =
+    codes "input " ++ port_text name dev ++ codes " " ++ decimal count ++ line_end
+
+-- more bytes than there are free places
+unfoldable pub full_text : (free : ℕ) → List ℕ
+full_text free = codes "refused full free " ++ decimal free ++ line_end
+
 -- and a line with it
 abbrev pub port_line : (name : List ℕ) → Region → List ℕ
 port_line name r = port_text name r.name ++ line_end

@@ -1,6 +1,7 @@
 //! The lists of guests and of serial ports, printed.
-ghost use Rattle.std.specs.Prelude.{◌≡◌, ◌+◌, ◌*◌, ◌≤◌, [], ◌++◌, length, count_by};
-ghost use Rattle.std.specs.List.{filter, flat_map};
+ghost use Rattle.std.specs.Prelude.{◌≡◌, ◌+◌, ◌*◌, ◌≤◌, ◌&&◌, [], ◌++◌, length, count_by};
+ghost use Rattle.std.specs.List.{filter, flat_map, position};
+ghost use Rattle.std.specs.Str.{bytes_eq};
 ghost use Rattle.xv_lone.specs.declared.vcpu.GuestState.TheVariants as states;
 ghost use Rattle.xv_print.specs.declared.printer.TheConstants.{ROOM};
 ghost use Rattle.xv_top.specs.Lists as lists;
@@ -117,6 +118,35 @@ pub fn port_name(printer: &mut Printer, name: &[u8], dev: &DevName)
     printer.text(name);
     printer.text(b"/");
     printer.text(dev.bytes());
+}
+
+/// `input NAME/DEV COUNT`
+#[tactic(auto, unfolding(crate::specs::Lists::input_text))]
+pub fn input(printer: &mut Printer, name: &[u8], dev: &DevName, count: u64)
+    requires empty { printer.old ≡ [] }
+    requires short { length name.now ≤ 40 }
+    ensures { printer.new ≡ lists.input_text name.now dev.now count }
+{
+    printer.text(b"input ");
+    port_name(printer, name, dev);
+    printer.text(b" ");
+    printer.number(count);
+    printer.text(b"\n");
+}
+
+/// The first of these regions that is the serial port of that name.
+pub fn port_named(regions: &[Region], dev: &DevName) -> Option<usize>
+    ensures { result
+        ≡ position (λ r. lists.is_port r && bytes_eq r.name dev.now) regions.now }
+{
+    regions.iter().position(|region| is_named(region, dev))
+}
+
+/// Whether a region is the serial port of that name.
+fn is_named(region: &Region, dev: &DevName) -> bool
+    ensures { result ≡ (lists.is_port region.now && bytes_eq region.now.name dev.now) }
+{
+    is_port(region) && region.name.bytes() == dev.bytes()
 }
 
 /// How many of these regions are serial ports.

@@ -227,6 +227,10 @@ impl Manager {
                 self.list(printer);
                 Ok(())
             }
+            Command::Input(name, dev, bytes) => {
+                self.input(name, dev, bytes.0.as_slice(), printer);
+                Ok(())
+            }
             Command::Ports => {
                 self.ports(printer);
                 Ok(())

@@ -1,6 +1,7 @@
 //! The lines that refuse a command or a script, printed.
 ghost use Rattle.std.specs.Prelude.{◌≡◌, ◌≤◌, [], length};
 ghost use Rattle.xv_tree.specs.declared.fault.PlanFault.TheVariants as faults;
+ghost use Rattle.xv_top.specs.Lists as lists;
 ghost use Rattle.xv_top.specs.Texts as texts;
 
 use xv_fdt::FdtKind;
@@ -29,6 +30,17 @@ pub fn frames(printer: &mut Printer, needed: u64, free: u64)
     printer.text(b"refused frames need ");
     printer.number(needed);
     printer.text(b" free ");
+    printer.number(free);
+    printer.text(b"\n");
+}
+
+/// `refused full free FREE`
+#[tactic(auto, unfolding(crate::specs::Lists::full_text))]
+pub fn full(printer: &mut Printer, free: u64)
+    requires { printer.old ≡ [] }
+    ensures { printer.new ≡ lists.full_text free }
+{
+    printer.text(b"refused full free ");
     printer.number(free);
     printer.text(b"\n");
 }

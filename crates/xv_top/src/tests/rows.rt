@@ -220,7 +220,7 @@ x4=0000000000000000 x5=0000000000000000 x6=0000000000000000 x7=0000000000000000
         script: b"guest pause a
 guest reset a
 guest destroy a
-vserial input a/u 00
+guest halt a
 vserial dump a/u
 guest list",
         transcript: &[
@@ -298,6 +298,9 @@ guest kick a
 run 1
 guest list
 vserial list
+vserial input a/uart@10000000 0a5cff
+vserial input a/uart 00
+vserial input b/uart@10000000 00
 ",
         files: &[DEVICE_TREE],
         transcript: &[
@@ -309,6 +312,9 @@ guests 1
 a halted pass vcpus 1
 vserial 1
 a/uart@10000000
+input a/uart@10000000 3
+refused device
+refused guest
 ",
         ],
         ..PLAIN

@@ -4,9 +4,10 @@ use Rattle.xv_top.specs.Contents.{poke_guest}
 use Rattle.xv_top.specs.Manager.{world_of}
 use Rattle.xv_top.specs.Texts.{refused_text}
 use Rattle.xv_top.specs.World.{guest_named}
+use Rattle.xv_top.specs.Commands.{input_guest}
 use Rattle.xv_top.proofs.CommandLemmas.{create_is, flat_is, load_is, poke_is, kick_is, regs_is}
 use Rattle.xv_top.proofs.CommandLemmas.{mem_is, digest_is, audit_is, list_is, ports_is, clock_is}
-use Rattle.xv_top.proofs.CommandLemmas.{tick_is, run_is, unbuilt_is}
+use Rattle.xv_top.proofs.CommandLemmas.{input_is, tick_is, run_is, unbuilt_is}
 use Rattle.xv_top.proofs.FetchLemmas.{stands_command}
 use Rattle.xv_top.proofs.ManagerLemmas.{create_stops, flat_stops, load_stops, gives_by, gives_text}
 use Rattle.xv_top.proofs.manager.Manager.apply.Goals as goal
@@ -90,6 +91,16 @@ returns-in-List-clause-answer g c told is =
     gives_by _ _ (list_is told w c.args.line.now.command c.in-List.is)
     (c.list.ensures c.args.machine.now)
 
+pub returns-in-Input-clause-answer : goal.returns-in-Input-clause-answer
+returns-in-Input-clause-answer g c told is =
+    let w = world_of c.args.self.now c.args.machine.now.mem in
+    let name = c.in-Input.name in
+    gives_by _ _
+    (input_is told w c.args.line.now.command _ _ _ c.in-Input.is
+    ∙ ap (λ b. input_guest w name c.in-Input.dev b (guest_named name w)) (sym
+    (c.as_slice-in-Input.ensures.value ∙ c.bytes-in-Input.view_is)))
+    (c.input.ensures.answer c.args.machine.now)
+
 pub returns-in-Ports-clause-answer : goal.returns-in-Ports-clause-answer
 returns-in-Ports-clause-answer g c told is =
     let w = world_of c.args.self.now c.args.machine.now.mem in
@@ -122,5 +133,5 @@ returns-in_default-clause-answer g c told is =
     (unbuilt_is told (world_of m machine.mem) c.args.line.now.command
     others.not-Create others.not-Flat others.not-Load others.not-Poke others.not-Kick
     others.not-Regs others.not-Mem others.not-Digest others.not-Audit others.not-List
-    others.not-Ports others.not-Clock others.not-Tick others.not-Run)
+    others.not-Input others.not-Ports others.not-Clock others.not-Tick others.not-Run)
     c.refused.ensures
