@@ -1,5 +1,5 @@
 # run 1
-# want x10=fffffffffffffffe x11=0 x8=0 x9=44 scause=0 sepc=0 x17=10 x16=1
+# want x10=0 x11=2 x8=0 x9=44 scause=0 sepc=0 x17=10 x16=1
         la      x5, cell
         li      x9, 0x44
         li      x8, 9
@@ -8,7 +8,7 @@
         li      x17, 0x10
         li      x16, 1
         lr.d    x6, (x5)
-        ecall                       # of S: no call is there, and no trap is taken
+        ecall                       # of S: the implementation's number; no trap is taken
         sc.d    x8, x9, (x5)
         ld      x9, 0(x5)
         j       .

@@ -1,615 +1,41 @@
 #!/usr/bin/env python3
-"""A slow and plain simulator of one flat guest, written from the rules alone, apart from the proved code.
+"""A slow and plain simulator of one guest, written from the rules alone, apart from the proved code.
 
-    python3 reference.py < script.xv            reads the five-line script, prints its answers
+    python3 reference.py < script.xv            reads a script of one guest, prints its answers
     python3 reference.py --trace < script.xv    the same, and one line per lone step on standard error
     python3 reference.py --steps < script.xv    the same, and the count of each row that was run, likewise
     python3 reference.py --table                checks the table: 97 rows, and no word matches two of them
 
-It serves as a check from outside: nothing here is fast, and each rule is written once, next to its row.
+It serves as a check from outside. This file has the lines of a script and turns; hart.py has the hart and
+its instructions, calls.py the calls to firmware, devices.py the devices, space.py what addresses lead to,
+tree.py the trees. It knows scripts whose lines are in the grammar, and no lines that pause, resume, reset,
+halt or destroy.
 """
 
+import hashlib
 import re
 import sys
+from pathlib import Path
 
-M64 = (1 << 64) - 1
-M32 = (1 << 32) - 1
+from calls import Firmware
+from hart import M64, UXL, Hart, check_table, low
+from space import PAGE, Region, Space
+from tree import PRIORITY, plan_of
+
 RAM = 0x80000000
-PAGE = 4096
 FREE_FRAMES = 64 * 256 - 64     # of 64 MiB of host memory, the root tables taken off
-STEPS_PER_TURN = 1000
-TICK = 100
+MOST_TURNS = 1000000
 
-
-def low(value, bits):
-    """The low bits, as a number that is at least 0."""
-    return value & ((1 << bits) - 1)
-
-
-def signed(value, bits=64):
-    """The low bits, read as a signed number."""
-    value = low(value, bits)
-    return value - (1 << bits) if value >> (bits - 1) else value
-
-
-def sext(value, bits):
-    """The low bits with their sign carried up to 64 bits."""
-    return low(signed(value, bits), 64)
-
-
-def field(word, high, least):
-    return low(word >> least, high - least + 1)
-
-
-# --- immediates and operands ---------------------------------------------------------------------------
-
-def imm_i(w):
-    return sext(field(w, 31, 20), 12)
-
-
-def imm_s(w):
-    return sext(field(w, 31, 25) << 5 | field(w, 11, 7), 12)
-
-
-def imm_b(w):
-    return sext(field(w, 31, 31) << 12 | field(w, 7, 7) << 11 | field(w, 30, 25) << 5
-                | field(w, 11, 8) << 1, 13)
-
-
-def imm_u(w):
-    return low(sext(field(w, 31, 12), 20) * 4096, 64)
-
-
-def imm_j(w):
-    return sext(field(w, 31, 31) << 20 | field(w, 19, 12) << 12 | field(w, 20, 20) << 11
-                | field(w, 30, 21) << 1, 21)
-
-
-def rd(w):
-    return field(w, 11, 7)
-
-
-def rs1(w):
-    return field(w, 19, 15)
-
-
-def rs2(w):
-    return field(w, 24, 20)
-
-
-# --- the hart --------------------------------------------------------------------------------------------
-
-class Trap(Exception):
-    """An exception of the guest; the step that raises it has changed nothing before."""
-
-    def __init__(self, cause, tval):
-        super().__init__(cause, tval)
-        self.cause = cause
-        self.tval = tval
-
-
-class Hart:
-    def __init__(self, pages):
-        self.memory = bytearray(pages * PAGE)
-        self.x = [0] * 32
-        self.pc = RAM
-        self.next = RAM             # where the pc goes when this step retires
-        self.supervisor = True
-        self.state = 'stopped'
-        self.time = 0
-        self.reservation = None     # (offset in memory, width), or None
-        self.word = 0
-        # The CSRs hold exactly the bits that are kept.
-        self.sstatus = self.sie = self.stvec = self.scounteren = self.senvcfg = 0
-        self.sscratch = self.sepc = self.scause = self.stval = self.satp = 0
-        self.ssip = 0
-        self.compare = M64
-
-    # registers
-
-    def get(self, number):
-        return self.x[number]
-
-    def put(self, number, value):
-        if number != 0:
-            self.x[number] = low(value, 64)
-
-    # memory. fault is the access fault of a kind of access: 1 of a fetch, 5 of a load, 7 of a store
-
-    def offset(self, physical, width):
-        """The offset in memory, or None where a guest physical address isn't memory."""
-        offset = physical - RAM
-        return offset if 0 <= offset <= len(self.memory) - width else None
-
-    def translate(self, address, fault):
-        """The guest physical address. A and D are never set: a leaf without them is a page fault."""
-        if self.satp >> 60 == 0:
-            return address
-        page_fault = Trap({1: 12, 5: 13, 7: 15}[fault], address)
-        if address >> 38 not in (0, (1 << 26) - 1):
-            raise page_fault
-        table = low(self.satp, 44) * PAGE
-        for level in (2, 1, 0):
-            at = self.offset(table + 8 * low(address >> 12 + 9 * level, 9), 8)
-            if at is None:
-                raise Trap(fault, address)
-            entry = int.from_bytes(self.memory[at:at + 8], 'little')
-            v, r, w, x, u, _, a, d = (entry >> bit & 1 for bit in range(8))
-            page = low(entry >> 10, 44)
-            if not v or entry >> 54 or w and not r:
-                raise page_fault
-            if r or x:
-                break
-            if a or d or u or level == 0:
-                raise page_fault
-            table = page * PAGE
-        may = {1: x, 5: r or x and self.flag(19), 7: w and d}[fault]
-        theirs = u if not self.supervisor else not u or fault != 1 and self.flag(18)
-        if not may or not theirs or not a or low(page, 9 * level):
-            raise page_fault
-        return page * PAGE + low(address, 12 + 9 * level)
-
-    def place(self, address, width, fault):
-        offset = self.offset(self.translate(address, fault), width)
-        if offset is None:
-            raise Trap(fault, address)
-        return offset
-
-    def read(self, address, width, fault):
-        at = self.place(address, width, fault)
-        return int.from_bytes(self.memory[at:at + width], 'little')
-
-    def write(self, address, width, value):
-        at = self.place(address, width, 7)
-        self.memory[at:at + width] = low(value, 8 * width).to_bytes(width, 'little')
-
-    def aligned(self, address, width, fault):
-        if address % width != 0:
-            raise Trap(fault, address)
-
-    # interrupts and traps
-
-    def sip(self):
-        timer = self.time >= self.compare
-        return (2 if self.ssip else 0) | (1 << 5 if timer else 0)
-
-    def flag(self, bit):
-        return self.sstatus >> bit & 1
-
-    def set_flag(self, bit, value):
-        self.sstatus = self.sstatus & ~(1 << bit) | value << bit
-
-    def enter(self, cause, tval):
-        self.sepc = self.pc & ~3
-        self.scause = cause
-        self.stval = tval
-        self.set_flag(8, 1 if self.supervisor else 0)
-        self.set_flag(5, self.flag(1))
-        self.set_flag(1, 0)
-        self.supervisor = True
-        self.pc = self.stvec & ~3
-        if cause >> 63 and self.stvec & 3 == 1:
-            self.pc = low(self.pc + 4 * low(cause, 63), 64)
-
-    def refuse(self):
-        raise Trap(2, self.word)
-
-    # one lone step; answers the row's name
-
-    def step(self):
-        pending = self.sip() & self.sie
-        if pending and (not self.supervisor or self.flag(1)):
-            number = next(n for n in (9, 1, 5) if pending >> n & 1)
-            self.enter((1 << 63) + number, 0)
-            return 'interrupt'
-        name = 'fetch'
-        try:
-            self.word = self.read(self.pc, 4, 1)
-            row = decode(self.word)
-            if row is None:
-                name = 'illegal'
-                self.refuse()
-            name = row.name
-            self.next = low(self.pc + 4, 64)
-            row.effect(self, self.word)
-            self.pc = self.next
-        except Trap as trap:
-            self.enter(trap.cause, trap.tval)
-        return name
-
-    def turn(self, time, watch):
-        self.time = time
-        self.reservation = None
-        self.state = 'started'
-        for _ in range(STEPS_PER_TURN):
-            before = self.pc
-            name = self.step()
-            watch(self, before, name)
-            if self.state != 'started':
-                break
-        self.reservation = None
-
-
-# --- CSRs ------------------------------------------------------------------------------------------------
-
-KEPT_SSTATUS = 1 << 1 | 1 << 5 | 1 << 8 | 1 << 18 | 1 << 19
-KEPT_SIE = 1 << 1 | 1 << 5 | 1 << 9
-UXL = 2 << 32
-
-
-def csr_read(h, number):
-    if number == 0x100:
-        return h.sstatus | UXL
-    if number == 0x144:
-        return h.sip()
-    if number == 0xC01:
-        return h.time
-    name = {0x104: 'sie', 0x105: 'stvec', 0x106: 'scounteren', 0x10A: 'senvcfg', 0x140: 'sscratch',
-            0x141: 'sepc', 0x142: 'scause', 0x143: 'stval', 0x180: 'satp'}.get(number)
-    if name is None:
-        h.refuse()
-    return getattr(h, name)
-
-
-def csr_write(h, number, v):
-    if number == 0x100:
-        h.sstatus = v & KEPT_SSTATUS
-    elif number == 0x104:
-        h.sie = v & KEPT_SIE
-    elif number == 0x105:
-        h.stvec = v & ~3 | (1 if v & 3 == 1 else 0)
-    elif number == 0x106:
-        h.scounteren = v & 2
-    elif number == 0x10A:
-        h.senvcfg = v & 1
-    elif number == 0x140:
-        h.sscratch = v
-    elif number == 0x141:
-        h.sepc = v & ~3
-    elif number == 0x142:
-        h.scause = v
-    elif number == 0x143:
-        h.stval = v
-    elif number == 0x144:
-        h.ssip = v >> 1 & 1
-    elif number == 0x180:
-        if v >> 60 in (0, 8):       # any other MODE: the whole write has no effect
-            h.satp = v >> 60 << 60 | low(v, 44)
-    else:
-        h.refuse()                  # 0xC01
-
-
-def csr_row(kind, immediate):
-    def effect(h, w):
-        number = field(w, 31, 20)
-        if not h.supervisor and not (number == 0xC01 and h.scounteren >> 1 & 1):
-            h.refuse()
-        old = csr_read(h, number)
-        operand = rs1(w) if immediate else h.get(rs1(w))
-        if kind == 'write':
-            csr_write(h, number, operand)
-        elif rs1(w) != 0:
-            csr_write(h, number, old | operand if kind == 'set' else old & low(~operand, 64))
-        h.put(rd(w), old)
-    return effect
-
-
-# --- effects of the rows ---------------------------------------------------------------------------------
-
-def jump(h, target):
-    if target % 4 != 0:
-        raise Trap(0, target)
-    h.next = target
-
-
-def lui(h, w):
-    h.put(rd(w), imm_u(w))
-
-
-def auipc(h, w):
-    h.put(rd(w), h.pc + imm_u(w))
-
-
-def jal(h, w):
-    jump(h, low(h.pc + imm_j(w), 64))
-    h.put(rd(w), h.pc + 4)
-
-
-def jalr(h, w):
-    jump(h, low(h.get(rs1(w)) + imm_i(w), 64) & ~1)
-    h.put(rd(w), h.pc + 4)
-
-
-def branch(holds):
-    def effect(h, w):
-        if holds(h.get(rs1(w)), h.get(rs2(w))):
-            jump(h, low(h.pc + imm_b(w), 64))
-    return effect
-
-
-def load(width, carry_sign):
-    def effect(h, w):
-        address = low(h.get(rs1(w)) + imm_i(w), 64)
-        h.aligned(address, width, 4)
-        value = h.read(address, width, 5)
-        h.put(rd(w), sext(value, 8 * width) if carry_sign else value)
-    return effect
-
-
-def store(width):
-    def effect(h, w):
-        address = low(h.get(rs1(w)) + imm_s(w), 64)
-        h.aligned(address, width, 6)
-        h.write(address, width, h.get(rs2(w)))
-    return effect
-
-
-def with_immediate(result):
-    return lambda h, w: h.put(rd(w), result(h.get(rs1(w)), imm_i(w)))
-
-
-def with_shift(bits, result):
-    """The shift is the number in bits 25:20 (6 bits), or 24:20 (5 bits)."""
-    return lambda h, w: h.put(rd(w), result(h.get(rs1(w)), low(w >> 20, bits)))
-
-
-def with_register(result):
-    return lambda h, w: h.put(rd(w), result(h.get(rs1(w)), h.get(rs2(w))))
-
-
-def divide(a, b, bits):
-    """Signed, towards zero."""
-    a, b = signed(a, bits), signed(b, bits)
-    if b == 0:
-        return -1
-    quotient = abs(a) // abs(b)
-    return -quotient if (a < 0) != (b < 0) else quotient
-
-
-def remain(a, b, bits):
-    a, b = signed(a, bits), signed(b, bits)
-    if b == 0:
-        return a
-    rest = abs(a) % abs(b)
-    return -rest if a < 0 else rest
-
-
-def divide_u(a, b, bits):
-    a, b = low(a, bits), low(b, bits)
-    return low(-1, bits) if b == 0 else a // b
-
-
-def remain_u(a, b, bits):
-    a, b = low(a, bits), low(b, bits)
-    return a if b == 0 else a % b
-
-
-def fence(h, w):
-    pass
-
-
-def ecall(h, w):
-    if not h.supervisor:
-        raise Trap(8, 0)
-    h.put(10, -2)                   # no call is there yet
-    h.put(11, 0)
-
-
-def ebreak(h, w):
-    raise Trap(3, h.pc)
-
-
-def sret(h, w):
-    if not h.supervisor:
-        h.refuse()
-    h.next = h.sepc
-    h.supervisor = h.flag(8) == 1
-    h.set_flag(1, h.flag(5))
-    h.set_flag(5, 1)
-    h.set_flag(8, 0)
-
-
-def wfi(h, w):
-    if not h.supervisor:
-        h.refuse()
-    if h.sip() & h.sie == 0:
-        h.state = 'waiting'
-
-
-def sfence(h, w):
-    if not h.supervisor:
-        h.refuse()
-
-
-def load_reserved(width):
-    def effect(h, w):
-        address = h.get(rs1(w))
-        h.aligned(address, width, 4)
-        value = h.read(address, width, 5)
-        h.reservation = (h.place(address, width, 5), width)
-        h.put(rd(w), sext(value, 8 * width))
-    return effect
-
-
-def store_conditional(width):
-    def effect(h, w):
-        address = h.get(rs1(w))
-        h.aligned(address, width, 6)
-        success = h.reservation == (h.place(address, width, 7), width)      # the place also where it fails
-        if success:
-            h.write(address, width, h.get(rs2(w)))
-        h.reservation = None
-        h.put(rd(w), 0 if success else 1)
-    return effect
-
-
-def atomic(width, result):
-    """The result gets the old value and rs2, both as numbers of the row's width that are at least 0."""
-    def effect(h, w):
-        address = h.get(rs1(w))
-        h.aligned(address, width, 6)
-        old = h.read(address, width, 7)
-        h.write(address, width, result(old, low(h.get(rs2(w)), 8 * width)))
-        h.put(rd(w), sext(old, 8 * width))
-    return effect
-
-
-# --- the table -------------------------------------------------------------------------------------------
-
-class Row:
-    def __init__(self, name, mask, match, effect):
-        self.name = name
-        self.mask = mask
-        self.match = match
-        self.effect = effect
-
-
-TABLE = []
-
-
-def add(name, effect, word=None, op=None, f3=None, f5=None, f6=None, f7=None, rs2=None, rd=None):
-    mask = match = 0
-    if word is not None:
-        mask, match = M32, word
-    for value, bits, at in ((op, 7, 0), (f3, 3, 12), (f5, 5, 27), (f6, 6, 26), (f7, 7, 25),
-                            (rs2, 5, 20), (rd, 5, 7)):
-        if value is not None:
-            mask |= low(-1, bits) << at
-            match |= value << at
-    TABLE.append(Row(name, mask, match, effect))
-
-
-def fill():
-    add('LUI', lui, op=0x37)
-    add('AUIPC', auipc, op=0x17)
-    add('JAL', jal, op=0x6F)
-    add('JALR', jalr, op=0x67, f3=0)
-
-    add('BEQ', branch(lambda a, b: a == b), op=0x63, f3=0)
-    add('BNE', branch(lambda a, b: a != b), op=0x63, f3=1)
-    add('BLT', branch(lambda a, b: signed(a) < signed(b)), op=0x63, f3=4)
-    add('BGE', branch(lambda a, b: signed(a) >= signed(b)), op=0x63, f3=5)
-    add('BLTU', branch(lambda a, b: a < b), op=0x63, f3=6)
-    add('BGEU', branch(lambda a, b: a >= b), op=0x63, f3=7)
-
-    for f3, name, width, carry_sign in ((0, 'LB', 1, True), (1, 'LH', 2, True), (2, 'LW', 4, True),
-                                        (3, 'LD', 8, True), (4, 'LBU', 1, False), (5, 'LHU', 2, False),
-                                        (6, 'LWU', 4, False)):
-        add(name, load(width, carry_sign), op=0x03, f3=f3)
-    for f3, name, width in ((0, 'SB', 1), (1, 'SH', 2), (2, 'SW', 4), (3, 'SD', 8)):
-        add(name, store(width), op=0x23, f3=f3)
-
-    add('ADDI', with_immediate(lambda a, b: a + b), op=0x13, f3=0)
-    add('SLTI', with_immediate(lambda a, b: int(signed(a) < signed(b))), op=0x13, f3=2)
-    add('SLTIU', with_immediate(lambda a, b: int(a < b)), op=0x13, f3=3)
-    add('XORI', with_immediate(lambda a, b: a ^ b), op=0x13, f3=4)
-    add('ORI', with_immediate(lambda a, b: a | b), op=0x13, f3=6)
-    add('ANDI', with_immediate(lambda a, b: a & b), op=0x13, f3=7)
-    add('SLLI', with_shift(6, lambda a, n: a << n), op=0x13, f3=1, f6=0)
-    add('SRLI', with_shift(6, lambda a, n: a >> n), op=0x13, f3=5, f6=0)
-    add('SRAI', with_shift(6, lambda a, n: signed(a) >> n), op=0x13, f3=5, f6=0x10)
-
-    add('ADDIW', with_immediate(lambda a, b: sext(a + b, 32)), op=0x1B, f3=0)
-    add('SLLIW', with_shift(5, lambda a, n: sext(a << n, 32)), op=0x1B, f3=1, f7=0)
-    add('SRLIW', with_shift(5, lambda a, n: sext(low(a, 32) >> n, 32)), op=0x1B, f3=5, f7=0)
-    add('SRAIW', with_shift(5, lambda a, n: signed(a, 32) >> n), op=0x1B, f3=5, f7=0x20)
-
-    add('ADD', with_register(lambda a, b: a + b), op=0x33, f7=0, f3=0)
-    add('SLL', with_register(lambda a, b: a << low(b, 6)), op=0x33, f7=0, f3=1)
-    add('SLT', with_register(lambda a, b: int(signed(a) < signed(b))), op=0x33, f7=0, f3=2)
-    add('SLTU', with_register(lambda a, b: int(a < b)), op=0x33, f7=0, f3=3)
-    add('XOR', with_register(lambda a, b: a ^ b), op=0x33, f7=0, f3=4)
-    add('SRL', with_register(lambda a, b: a >> low(b, 6)), op=0x33, f7=0, f3=5)
-    add('OR', with_register(lambda a, b: a | b), op=0x33, f7=0, f3=6)
-    add('AND', with_register(lambda a, b: a & b), op=0x33, f7=0, f3=7)
-    add('SUB', with_register(lambda a, b: a - b), op=0x33, f7=0x20, f3=0)
-    add('SRA', with_register(lambda a, b: signed(a) >> low(b, 6)), op=0x33, f7=0x20, f3=5)
-
-    add('MUL', with_register(lambda a, b: a * b), op=0x33, f7=1, f3=0)
-    add('MULH', with_register(lambda a, b: signed(a) * signed(b) >> 64), op=0x33, f7=1, f3=1)
-    add('MULHSU', with_register(lambda a, b: signed(a) * b >> 64), op=0x33, f7=1, f3=2)
-    add('MULHU', with_register(lambda a, b: a * b >> 64), op=0x33, f7=1, f3=3)
-    add('DIV', with_register(lambda a, b: divide(a, b, 64)), op=0x33, f7=1, f3=4)
-    add('DIVU', with_register(lambda a, b: divide_u(a, b, 64)), op=0x33, f7=1, f3=5)
-    add('REM', with_register(lambda a, b: remain(a, b, 64)), op=0x33, f7=1, f3=6)
-    add('REMU', with_register(lambda a, b: remain_u(a, b, 64)), op=0x33, f7=1, f3=7)
-
-    add('ADDW', with_register(lambda a, b: sext(a + b, 32)), op=0x3B, f7=0, f3=0)
-    add('SLLW', with_register(lambda a, b: sext(a << low(b, 5), 32)), op=0x3B, f7=0, f3=1)
-    add('SRLW', with_register(lambda a, b: sext(low(a, 32) >> low(b, 5), 32)), op=0x3B, f7=0, f3=5)
-    add('SUBW', with_register(lambda a, b: sext(a - b, 32)), op=0x3B, f7=0x20, f3=0)
-    add('SRAW', with_register(lambda a, b: signed(a, 32) >> low(b, 5)), op=0x3B, f7=0x20, f3=5)
-
-    add('MULW', with_register(lambda a, b: sext(a * b, 32)), op=0x3B, f7=1, f3=0)
-    add('DIVW', with_register(lambda a, b: sext(divide(a, b, 32), 32)), op=0x3B, f7=1, f3=4)
-    add('DIVUW', with_register(lambda a, b: sext(divide_u(a, b, 32), 32)), op=0x3B, f7=1, f3=5)
-    add('REMW', with_register(lambda a, b: sext(remain(a, b, 32), 32)), op=0x3B, f7=1, f3=6)
-    add('REMUW', with_register(lambda a, b: sext(remain_u(a, b, 32), 32)), op=0x3B, f7=1, f3=7)
-
-    add('FENCE', fence, op=0x0F, f3=0)
-    add('FENCE.I', fence, op=0x0F, f3=1)
-    add('ECALL', ecall, word=0x00000073)
-    add('EBREAK', ebreak, word=0x00100073)
-    add('SRET', sret, word=0x10200073)
-    add('WFI', wfi, word=0x10500073)
-    add('SFENCE.VMA', sfence, op=0x73, f3=0, f7=0x09, rd=0)
-
-    for f3, name, kind, immediate in ((1, 'CSRRW', 'write', False), (2, 'CSRRS', 'set', False),
-                                      (3, 'CSRRC', 'clear', False), (5, 'CSRRWI', 'write', True),
-                                      (6, 'CSRRSI', 'set', True), (7, 'CSRRCI', 'clear', True)):
-        add(name, csr_row(kind, immediate), op=0x73, f3=f3)
-
-    for f3, width, end in ((2, 4, '.W'), (3, 8, '.D')):
-        bits = 8 * width
-
-        def atomics(f5, name, result, f3=f3, width=width, end=end):
-            add(name + end, atomic(width, result), op=0x2F, f3=f3, f5=f5)
-
-        def least(a, b, bits=bits):
-            return a if signed(a, bits) <= signed(b, bits) else b
-
-        def greatest(a, b, bits=bits):
-            return a if signed(a, bits) >= signed(b, bits) else b
-
-        add('LR' + end, load_reserved(width), op=0x2F, f3=f3, f5=0x02, rs2=0)
-        add('SC' + end, store_conditional(width), op=0x2F, f3=f3, f5=0x03)
-        atomics(0x01, 'AMOSWAP', lambda old, b: b)
-        atomics(0x00, 'AMOADD', lambda old, b: old + b)
-        atomics(0x04, 'AMOXOR', lambda old, b: old ^ b)
-        atomics(0x0C, 'AMOAND', lambda old, b: old & b)
-        atomics(0x08, 'AMOOR', lambda old, b: old | b)
-        atomics(0x10, 'AMOMIN', least)
-        atomics(0x14, 'AMOMAX', greatest)
-        atomics(0x18, 'AMOMINU', min)
-        atomics(0x1C, 'AMOMAXU', max)
-
-
-fill()
-
-
-def decode(word):
-    for row in TABLE:
-        if word & row.mask == row.match:
-            return row
-    return None
-
-
-def check_table():
-    assert len(TABLE) == 97, len(TABLE)
-    assert len({row.name for row in TABLE}) == 97
-    for i, a in enumerate(TABLE):
-        assert a.match & ~a.mask == 0, a.name
-        for b in TABLE[:i]:
-            # Some word matches both exactly where they agree on the bits that both fix.
-            assert (a.match ^ b.match) & a.mask & b.mask != 0, (a.name, b.name)
-    print('97 rows, no word matches two')
-
-
-# --- the script ------------------------------------------------------------------------------------------
 
 class Malformed(Exception):
     pass
 
+
+class Refusal(Exception):
+    """A line that is refused: the words behind "refused". It has changed nothing."""
+
+
+# --- words of a line -----------------------------------------------------------------------------------
 
 def number_of(text):
     if re.fullmatch(r'[0-9]{1,20}', text):
@@ -623,115 +49,295 @@ def number_of(text):
     return value
 
 
+def within(least, greatest):
+    def read(text):
+        value = number_of(text)
+        if not least <= value <= greatest:
+            raise Malformed(text)
+        return value
+    return read
+
+
 def name_of(text):
     if not re.fullmatch(r'[A-Za-z][A-Za-z0-9_-]{0,30}', text):
         raise Malformed(text)
     return text
 
 
-def in_range(value, least, greatest):
-    if not least <= value <= greatest:
-        raise Malformed(str(value))
-    return value
+def device_of(text):
+    """A guest's name and that of a device."""
+    name, slash, device = text.partition('/')
+    if not slash or not re.fullmatch(r'[!-.0-~]{1,63}', device):
+        raise Malformed(text)
+    return name_of(name), device
+
+
+def file_of(text):
+    if not re.fullmatch(r'[!-~]{1,255}', text):
+        raise Malformed(text)
+    return text
 
 
 def hex_of(text):
     if not re.fullmatch(r'([0-9A-Fa-f]{2})+', text):
-        raise Malformed(text)
+        raise Malformed(text[:60])
     return bytes.fromhex(text)
 
 
-def read_script(text):
-    lines = [line.split() for line in text.replace('\r\n', '\n').split('\n')]
-    lines = [words for words in lines if words and not words[0].startswith('#')]
-    heads = [['guest', 'flat'], ['guest', 'poke'], ['guest', 'kick'], ['run'], ['guest', 'regs']]
-    counts = [4, 5, 3, 2, 4]
-    if len(lines) != 5:
-        raise Malformed('a script has five lines')
-    for words, head, count in zip(lines, heads, counts):
-        if words[:len(head)] != head or len(words) != count:
-            raise Malformed(' '.join(words)[:60])
-    flat, poke, kick, run, regs = lines
-    return (('flat', name_of(flat[2]), in_range(number_of(flat[3]), 1, 131072)),
-            ('poke', name_of(poke[2]), number_of(poke[3]), hex_of(poke[4])),
-            ('kick', name_of(kick[2])),
-            ('run', in_range(number_of(run[1]), 1, 100000)),
-            ('regs', name_of(regs[2]), number_of(regs[3])))
+# --- the guest -----------------------------------------------------------------------------------------
+
+class Guest:
+    def __init__(self, name, regions, vcpus, birth):
+        self.name = name
+        self.space = Space(regions, len(vcpus))
+        self.harts = [Hart(self.space, number, *vcpu) for number, vcpu in enumerate(vcpus)]
+        firmware = Firmware(self.space, self.harts)
+        for hart in self.harts:
+            hart.firmware = firmware
+        self.state = 'reset'
+        self.birth = birth
+
+    def memory(self, address, length):
+        place = self.space.memory(address, length)
+        if place is None:
+            raise Refusal('outside')
+        return place
+
+    def put(self, address, data):
+        region, offset = self.memory(address, len(data))
+        region.data[offset:offset + len(data)] = data
+
+    def time(self, clock):
+        return low(clock - self.birth, 64)
+
+    def pick(self, clock):
+        """The hart that has the turn: of the ready ones of the greatest priority the one whose last turn is
+        the longest ago, and of several that have had none the first. None where no hart is ready."""
+        ready = [hart for hart in self.harts if self.state == 'running' and hart.is_ready(self.time(clock))]
+        return min(ready, key=lambda hart: (-hart.priority, hart.last_turn, hart.number), default=None)
+
+    def turn(self, hart, number, clock, watch):
+        hart.last_turn = number
+        hart.turn(self.time(clock), watch)
+        outcome = self.space.outcome
+        if outcome == 'reboot':
+            self.reboot()
+        elif outcome is not None:
+            self.state = outcome
+
+    def reboot(self):
+        for hart in self.harts:
+            hart.reset()
+        self.space.reset_devices()
+        self.harts[0].state = 'started'
 
 
-def frames_of(pages):
-    end = RAM + pages * PAGE
+# --- the lines -----------------------------------------------------------------------------------------
 
-    def blocks(size):
-        return (end - 1) // size - RAM // size + 1
-    return pages + blocks(1 << 30) + blocks(1 << 21)
+def printable(data):
+    return ''.join(chr(byte) if 0x20 <= byte <= 0x7E and byte != 0x5C else '\\x%02x' % byte for byte in data)
 
 
-def print_regs(name, vcpu, h):
-    def pair(key, value):
-        return '%s=%016x' % (key, value)
+def pair(key, value):
+    return '%s=%016x' % (key, value)
 
+
+def text_of_registers(name, vcpu, h):
     mode = 'S' if h.supervisor else 'U'
-    print('regs %s %d %s %s %s' % (name, vcpu, h.state, mode, pair('pc', h.pc)))
+    lines = ['regs %s %d %s %s %s' % (name, vcpu, h.state, mode, pair('pc', h.pc))]
     for i in range(0, 32, 4):
-        print(' '.join(pair('x%d' % n, h.x[n]) for n in range(i, i + 4)))
+        lines.append(' '.join(pair('x%d' % n, h.x[n]) for n in range(i, i + 4)))
     rows = ((('sstatus', h.sstatus | UXL), ('sie', h.sie), ('ssip', 2 if h.ssip else 0),
              ('stvec', h.stvec)),
             (('sscratch', h.sscratch), ('sepc', h.sepc), ('scause', h.scause), ('stval', h.stval)),
             (('satp', h.satp), ('scounteren', h.scounteren), ('senvcfg', h.senvcfg),
              ('timer', h.compare)))
-    for row in rows:
-        print(' '.join(pair(*entry) for entry in row))
+    return '\n'.join(lines + [' '.join(pair(*entry) for entry in row) for row in rows])
+
+
+class Session:
+    """Each method that a line names makes its answer, or raises Refusal."""
+
+    def __init__(self, watch):
+        self.watch = watch
+        self.guest = None
+        self.clock = 0
+        self.tick = 100
+        self.turns = 0
+
+    def of(self, name):
+        if self.guest is None or self.guest.name != name:
+            raise Refusal('guest')
+        return self.guest
+
+    def uart(self, name):
+        guest = self.of(name[0])
+        for region in guest.space.uarts:
+            if region.name == name[1]:
+                return guest.space, region.device
+        raise Refusal('device')
+
+    def born(self, name, regions, vcpus):
+        guest = Guest(name, regions, vcpus, self.clock)
+        need = guest.space.frames()
+        if need > FREE_FRAMES:
+            raise Refusal('frames need %d free %d' % (need, FREE_FRAMES))
+        self.guest = guest
+        return 'created %s vcpus %d regions %d frames %d' % (name, len(vcpus), len(regions), need)
+
+    def unused(self, name):
+        if self.guest is not None:
+            raise Refusal('used' if self.guest.name == name else 'unbuilt')
+
+    def guest_flat(self, name, pages):
+        self.unused(name)
+        return self.born(name, [Region('ram', 'ram', RAM, pages * PAGE)], [(RAM, PRIORITY)])
+
+    def guest_create(self, name, file):
+        self.unused(name)
+        return self.born(name, *plan_of(fetched(file)))
+
+    def loadable(self, name):
+        guest = self.of(name)
+        if guest.state != 'reset':
+            raise Refusal('state')
+        return guest
+
+    def guest_load(self, name, address, file):
+        guest = self.loadable(name)
+        data = fetched(file)
+        guest.put(address, data)
+        return 'loaded %s %d' % (name, len(data))
+
+    def guest_poke(self, name, address, data):
+        self.loadable(name).put(address, data)
+        return 'poked %s %d' % (name, len(data))
+
+    def guest_kick(self, name):
+        guest = self.loadable(name)         # the same states
+        guest.harts[0].put(10, 0)
+        guest.harts[0].put(11, 0)
+        guest.harts[0].state = 'started'
+        guest.state = 'running'
+        return 'kicked %s' % name
+
+    def guest_regs(self, name, vcpu):
+        guest = self.of(name)
+        if vcpu >= len(guest.harts):
+            raise Refusal('vcpu')
+        return text_of_registers(name, vcpu, guest.harts[vcpu])
+
+    def guest_mem(self, name, address, length):
+        region, offset = self.of(name).memory(address, length)
+        return 'mem %s %016x %s' % (name, address, region.data[offset:offset + length].hex())
+
+    def guest_digest(self, name):
+        real = [region.data for region in self.of(name).space.regions if region.data is not None]
+        return 'digest %s %s' % (name, hashlib.sha256(b''.join(real)).hexdigest())
+
+    def guest_audit(self, name):
+        return 'audit %s %d' % (name, self.of(name).space.pages())
+
+    def guest_list(self):
+        guests = [self.guest] if self.guest is not None else []
+        return '\n'.join(['guests %d' % len(guests)]
+                         + ['%s %s vcpus %d' % (guest.name, guest.state, len(guest.harts))
+                            for guest in guests])
+
+    def vserial_list(self):
+        ports = self.guest.space.uarts if self.guest is not None else []
+        return '\n'.join(['vserial %d' % len(ports)]
+                         + ['%s/%s' % (self.guest.name, region.name) for region in ports])
+
+    def vserial_input(self, port, data):
+        space, uart = self.uart(port)
+        if len(data) > uart.free():
+            raise Refusal('full free %d' % uart.free())
+        uart.input(data)
+        space.settle()
+        return 'input %s/%s %d' % (*port, len(data))
+
+    def vserial_dump(self, port):
+        _, uart = self.uart(port)
+        data, lost = uart.take_kept()
+        return 'dump %s/%s lost %d bytes %d\n%s' % (*port, lost, len(data), printable(data))
+
+    def clock_to(self, value):
+        if value < self.clock:
+            raise Refusal('clock')
+        self.clock = value
+        return 'clock %d' % value
+
+    def tick_to(self, value):
+        self.tick = value
+        return 'tick %d' % value
+
+    def run(self, count):
+        if self.turns + count > MOST_TURNS:
+            raise Refusal('turns')
+        idle = 0
+        for _ in range(count):
+            self.turns += 1         # turns are numbered from 1, idle ones too
+            hart = self.guest.pick(self.clock) if self.guest is not None else None
+            if hart is not None:
+                self.guest.turn(hart, self.turns, self.clock, self.watch)
+            else:
+                idle += 1
+            self.clock = low(self.clock + self.tick, 64)
+        return 'ran %d idle %d now %d' % (count, idle, self.clock)
+
+
+def fetched(file):
+    try:
+        return Path(file).read_bytes()
+    except FileNotFoundError:
+        raise Refusal('missing') from None
+
+
+# The words that begin a line, the method that answers it, and what reads each further word.
+LINES = (
+    (('guest', 'flat'), Session.guest_flat, (name_of, within(1, 131072))),
+    (('guest', 'create'), Session.guest_create, (name_of, file_of)),
+    (('guest', 'load'), Session.guest_load, (name_of, number_of, file_of)),
+    (('guest', 'poke'), Session.guest_poke, (name_of, number_of, hex_of)),
+    (('guest', 'kick'), Session.guest_kick, (name_of,)),
+    (('guest', 'regs'), Session.guest_regs, (name_of, number_of)),
+    (('guest', 'mem'), Session.guest_mem, (name_of, number_of, within(1, 4096))),
+    (('guest', 'digest'), Session.guest_digest, (name_of,)),
+    (('guest', 'audit'), Session.guest_audit, (name_of,)),
+    (('guest', 'list'), Session.guest_list, ()),
+    (('vserial', 'list'), Session.vserial_list, ()),
+    (('vserial', 'input'), Session.vserial_input, (device_of, hex_of)),
+    (('vserial', 'dump'), Session.vserial_dump, (device_of,)),
+    (('clock',), Session.clock_to, (number_of,)),
+    (('tick',), Session.tick_to, (number_of,)),
+    (('run',), Session.run, (within(1, 100000),)),
+)
+
+
+def read_line(words):
+    for head, method, readers in LINES:
+        if tuple(words[:len(head)]) == head:
+            fields = words[len(head):]
+            if len(fields) != len(readers):
+                break
+            return method, [read(field) for read, field in zip(readers, fields)]
+    raise Malformed(' '.join(words)[:60])
+
+
+def read_script(text):
+    """All lines are read before the first one is run."""
+    lines = [line.split() for line in text.replace('\r\n', '\n').split('\n')]
+    return [read_line(words) for words in lines if words and not words[0].startswith('#')]
 
 
 def run_script(commands, watch):
-    guest = None        # its name
-    hart = None
-    running = False
-    clock = 0
-    for command in commands:
-        kind = command[0]
-        if kind == 'flat':
-            need = frames_of(command[2])
-            if need > FREE_FRAMES:
-                print('refused frames need %d free %d' % (need, FREE_FRAMES))
-                continue
-            guest, hart = command[1], Hart(command[2])
-            print('created %s vcpus 1 regions 1 frames %d' % (guest, need))
-        elif kind == 'run':
-            idle = 0
-            for _ in range(command[1]):
-                if hart:
-                    hart.time = clock
-                ready = running and (hart.state == 'started'
-                                     or hart.state == 'waiting' and hart.sip() & hart.sie != 0)
-                if ready:
-                    hart.turn(clock, watch)
-                else:
-                    idle += 1
-                clock = low(clock + TICK, 64)
-            print('ran %d idle %d now %d' % (command[1], idle, clock))
-        elif command[1] != guest:
-            print('refused guest')
-        elif kind == 'poke':
-            address, data = command[2], command[3]
-            offset = address - RAM
-            if offset < 0 or offset + len(data) > len(hart.memory):
-                print('refused outside')
-                continue
-            hart.memory[offset:offset + len(data)] = data
-            print('poked %s %d' % (guest, len(data)))
-        elif kind == 'kick':
-            hart.put(10, 0)
-            hart.put(11, 0)
-            hart.state = 'started'
-            running = True
-            print('kicked %s' % guest)
-        elif kind == 'regs':
-            if command[2] != 0:
-                print('refused vcpu')
-                continue
-            print_regs(guest, 0, hart)
+    session = Session(watch)
+    for method, fields in commands:
+        try:
+            print(method(session, *fields))
+        except Refusal as why:
+            print('refused %s' % why)
 
 
 def main():
@@ -753,7 +359,7 @@ def main():
     try:
         commands = read_script(sys.stdin.read())
     except Malformed as what:
-        print('reference.py: not a script of the five lines: %s' % what, file=sys.stderr)
+        print('reference.py: not a line that it knows: %s' % what, file=sys.stderr)
         return 3
     run_script(commands, watch)
     for name in sorted(counts):

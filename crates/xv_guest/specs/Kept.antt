@@ -24,6 +24,7 @@ pub record IsKept (g : Inside) : Type 0 where
   pub starts : All (λ v. IsInstructionAddress v.start) g.plan.vcpus
   -- a view for each VCPU of the plan
   pub count : length g.vcpus.items ≡ length g.plan.vcpus
+  pub few : length g.plan.vcpus ≤ 8
   pub views : All IsView g.vcpus.items
   -- a guest with no root has no frames, and room for those that it will have
   pub nothing : g.root ≡ None → g.frames.items ≡ []

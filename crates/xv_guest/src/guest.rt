@@ -125,6 +125,7 @@ impl Guest {
     pub fn plan(&self) -> &Plan
         ensures plan { result.now ≡ self.now.plan }
         ensures vcpus { length self.now.vcpus ≡ length self.now.plan.vcpus }
+        ensures few { length self.now.plan.vcpus ≤ 8 }
         ensures devices { HasDevices self.now.plan self.now.devices }
     {
         &self.plan

@@ -1,7 +1,8 @@
 -- A device that was accessed, with the hart's VCPU put back into the lone machine.
 use Rattle.std.proofs.Common.{◌≡◌, ℕ, suc, ◌+◌, ◌-◌, ◌^◌, ◌<◌, ◌⊎◌, Bool, true, false, cond, eqb}
 use Rattle.std.proofs.Common.{List, [], ◌∷◌, length, get_or, Option, Some, None, option_map}
-use Rattle.std.proofs.Common.{option_and_then, unwrap_or, refl, sym, ap, ◌∙◌, subst, arith, inl, inr}
+use Rattle.std.proofs.Common.{option_and_then, unwrap_or, refl, sym, ap, ◌∙◌, subst, arith, inl}
+use Rattle.std.proofs.Common.{inr}
 use Rattle.std.proofs.lemmas.Bool.{cond-true, cond-false}
 use Rattle.std.proofs.lemmas.List.{length-map}
 use Rattle.xv_bus.specs.Access.{Fits, width_bytes}
@@ -30,7 +31,7 @@ use Rattle.xv_host.specs.Monitor.{page_faulted, width_of_bus, word_of}
 use Rattle.xv_bus.specs.declared.access.Access as bus
 use Rattle.xv_bus.specs.declared.access.Ending.{Ending}
 use Rattle.xv_bus.specs.declared.access.Outcome.{Outcome}
-use Rattle.xv_bus.specs.declared.access.Outcome.TheVariants.{Value, Done, Refused, Halt, Reboot}
+use Rattle.xv_bus.specs.declared.access.Outcome.TheVariants.{Value, Refused, Halt, Reboot}
 use Rattle.xv_isa.specs.Effects as effects
 use Rattle.xv_emul.specs.Emulation.{access_of, at_bus, emulated, is_bus_load, is_load, plain_of}
 use Rattle.xv_emul.specs.Emulation.{width_named, written_back}
@@ -46,7 +47,7 @@ use Rattle.xv_lone.specs.Machine.{Machine, access_in, after_access, halted, rebo
 use Rattle.xv_lone.specs.Step.{After, Halts, OnHart, Reboots, by_device, by_outcome, faults}
 use Rattle.xv_guest.specs.Guest.{Guest, held_of as holdings_of, lone_of}
 use Rattle.xv_guest.specs.Held.{Held}
-use Rattle.xv_host.specs.declared.monitor.Progress.TheVariants as progress
+use Rattle.xv_firmware.specs.declared.calls.Progress.TheVariants as progress
 use Rattle.xv_host.specs.OnHart.{after_of, on_hart_of, view_of}
 use Rattle.xv_host.specs.Spots.{place_of}
 use Rattle.xv_host.proofs.ViewLemmas.{back_is, fault_back}

@@ -7,22 +7,20 @@ use Rattle.xv_isa.specs.declared.instruction.Insn.{Insn}
 use Rattle.xv_isa.specs.Effects as effects
 use Rattle.xv_isa.specs.Effects.{effect_of}
 use Rattle.xv_isa.specs.Length.{next_pc}
-use Rattle.xv_isa.specs.Operands.{decode_of}
 use Rattle.xv_csr.specs.Cause.{environment_call_from_vs, virtual_instruction}
 use Rattle.xv_csr.specs.Cause.{instruction_guest_page_fault}
 use Rattle.xv_emul.specs.Emulation.{access_of, plain_of}
 use Rattle.xv_emul.proofs.AccessLemmas.{access_anywhere, atomic_access}
 use Rattle.xv_pte.specs.declared.access.Kind3.TheVariants as kinds
 use Rattle.xv_pte.specs.declared.access.Kind3.{Kind3}
-use Rattle.xv_step.specs.Outcome.{Ask, TableEntry, Target, Plain, Call, Wait, access_kind}
+use Rattle.xv_step.specs.Outcome.{Ask, TableEntry, Target, Plain, Call, Wait}
 use Rattle.xv_step.specs.Outcome.{address_of, width_of}
-use Rattle.xv_step.specs.Step.{fetched_word}
 use Rattle.xv_step.proofs.AskLemmas.{AtPc, AsksPlain, AsksAtomic, IsOfWord}
 use Rattle.xv_step.proofs.NextLemmas.{AsksNext, IsNext}
 use Rattle.xv_hart.specs.declared.exit.HTrap.{HTrap}
 use Rattle.xv_hart.specs.declared.regs.Regs.{Regs}
 use Rattle.xv_hart.specs.Memory.{bus_of}
-use Rattle.xv_hart.specs.Step.{trap_of, fault_trap, entry_read, state_of}
+use Rattle.xv_hart.specs.Step.{trap_of, state_of}
 use Rattle.xv_lone.specs.declared.vcpu.VcpuView.{VcpuView}
 use Rattle.xv_region.specs.declared.cell.Cell.{Cell}
 use Rattle.xv_region.specs.declared.cell.Cell.TheVariants as cells
@@ -31,7 +29,8 @@ use Rattle.xv_region.specs.Plan.{Plan}
 use Rattle.xv_lone.specs.declared.vcpu.HartState.TheVariants.{Started}
 use Rattle.xv_lone.specs.Step.{OnHart, After, answered, by_cell, by_device, faults, calls, waits}
 use Rattle.xv_host.specs.Monitor.{IsAbout, IsPlainFault, TellsAccess, access_by, at_cell}
-use Rattle.xv_host.specs.Monitor.{device_access, ecall_word, gpa_of, monitored, page_faulted}
+use Rattle.xv_firmware.specs.Calls.{ecall_word}
+use Rattle.xv_host.specs.Monitor.{device_access, gpa_of, monitored, page_faulted}
 use Rattle.xv_host.specs.Monitor.{word_of}
 use Rattle.xv_host.specs.OnHart.{view_of}
 

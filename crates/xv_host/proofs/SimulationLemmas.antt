@@ -41,7 +41,7 @@ use Rattle.xv_lone.specs.declared.vcpu.VcpuView.{VcpuView}
 use Rattle.xv_guest.specs.Guest.{Guest, held_of as holdings_of, lone_of, root_or_none}
 use Rattle.xv_guest.specs.Held.{memory_of}
 use Rattle.xv_host.specs.Join.{StandsIn, IsGoodFor}
-use Rattle.xv_host.specs.declared.monitor.Progress.TheVariants.{Goes}
+use Rattle.xv_firmware.specs.declared.calls.Progress.TheVariants.{Goes}
 use Rattle.xv_host.specs.Monitor.{TellsAccess, access_by, monitored, word_of}
 use Rattle.xv_host.specs.OnHart.{view_of, on_hart_of, after_of, lines_of_vcpu, with_lines_of}
 use Rattle.xv_host.specs.OnHart.{IsOnHart, MayRun, ReservedStands}
@@ -82,10 +82,10 @@ with_lines g h t v r next is on formed =
       };
     })
 
--- the monitor's answer leaves root, time and reservation
+-- the monitor's answer leaves root, time and reservation, and of h all but the lines
 pub on_again : (g : Guest) (t : ℕ) (stepped taken next : Regs) → IsOnHart g t stepped
-    → taken ≡ stepped → next.time ≡ taken.time → next.h ≡ taken.h
-    → next.held ≡ taken.held → IsOnHart g t next
+    → taken ≡ stepped → next.time ≡ taken.time
+    → next.h ≡ record taken.h { hvip = next.h.hvip } → next.held ≡ taken.held → IsOnHart g t next
 on_again g t stepped taken next on same time h held = record {
   root = ap root_of h ∙ (ap (λ r. root_of r.h) same ∙ on.root);
   time = ap (λ n. guest_time n next.h) time ∙ (ap (guest_time taken.time) h
@@ -266,7 +266,8 @@ module _ (g : Guest) (h t : ℕ) (v : VcpuView) (first : List ℕ) (may : MayRun
 
       -- a hart that made its step
       pub done_is : ((trap : HTrap) → exit ≡ Trap trap → ⊥)
-          → after_of g h v next now (Goes Started) ≡ lone.stepped g.plan h t before (view_of v r Started)
+          → after_of g h v next now (Goes Started) ≡ lone.stepped g.plan h t before (view_of v r
+          Started)
       done_is no_trap =
           after_is next now Started ∙ by_outcome (outcome_of r first) next_is step_is
           ∙ sym lone_is

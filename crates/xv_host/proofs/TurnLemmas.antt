@@ -24,12 +24,13 @@ use Rattle.xv_lone.proofs.IterateLemmas.{iterate_over, iterate_more, iterate_non
 use Rattle.xv_lone.specs.declared.vcpu.VcpuView.{VcpuView}
 use Rattle.xv_region.specs.Plan.{Plan}
 use Rattle.xv_guest.specs.Guest.{Guest, held_of as holdings_of, lone_of, with_machine}
-use Rattle.xv_host.specs.declared.monitor.Progress.{Progress}
-use Rattle.xv_host.specs.declared.monitor.Progress.TheVariants.{Goes, Halts as GuestHalts}
-use Rattle.xv_host.specs.declared.monitor.Progress.TheVariants.{Reboots as GuestReboots}
+use Rattle.xv_firmware.specs.declared.calls.Progress.{Progress}
+use Rattle.xv_firmware.specs.declared.calls.Progress.TheVariants.{Goes, Halts as GuestHalts}
+use Rattle.xv_firmware.specs.declared.calls.Progress.TheVariants.{Reboots as GuestReboots}
 use Rattle.xv_host.specs.OnHart.{view_of, with_view, core_of, on_hart_of, after_of, end_of}
 use Rattle.xv_host.specs.OnHart.{regs_of_vcpu, shown_guest, IsBetween, IsOnHart, IsTurned}
-use Rattle.xv_host.specs.OnHart.{Grows, Leaves, MayRun}
+use Rattle.xv_firmware.specs.Calls.{Leaves}
+use Rattle.xv_host.specs.OnHart.{Grows, IsViewAt, MayRun, Shows}
 use Rattle.xv_host.proofs.ViewLemmas.{slice_get-set}
 
 -- the guest's turn, with this on the hart and in host memory
@@ -113,38 +114,35 @@ module _ (g : Guest) (h t : ℕ) (v : VcpuView) (first : List ℕ) (at : slice_g
       pieces = NoPiece;
     }
 
-    module _ (here there : Guest) (same : here ≡ record g { devices = here.devices })
-        (r next : Regs) (bytes now : List ℕ) (p : Progress)
-        (made_step : after_of there h v next now p
-        ≡ stepped here.plan h t (on_hart_of here h v r bytes Started) (view_of v r Started)) where
-      here_at : slice_get here.vcpus h ≡ Some v
-      here_at = ap (λ (x : Guest). slice_get x.vcpus h) same ∙ at
-
-      step_is : after_of there h v next now p
-          ≡ stepped g.plan h t (on_hart_of here h v r bytes Started) (view_of v r Started)
+    module _ (here there : Guest) (same : Leaves g here) (w u : VcpuView)
+        (here_at : slice_get here.vcpus h ≡ Some w) (r next : Regs) (bytes now : List ℕ)
+        (p : Progress) (made_step : after_of there h u next now p
+        ≡ stepped here.plan h t (on_hart_of here h w r bytes Started) (view_of w r Started)) where
+      step_is : after_of there h u next now p
+          ≡ stepped g.plan h t (on_hart_of here h w r bytes Started) (view_of w r Started)
       step_is =
           made_step
-          ∙ ap (λ (plan : Plan). stepped plan h t (on_hart_of here h v r bytes Started)
-          (view_of v r Started)) (ap (λ (x : Guest). x.plan) same)
+          ∙ ap (λ (plan : Plan). stepped plan h t (on_hart_of here h w r bytes Started)
+          (view_of w r Started)) (ap (λ (x : Guest). x.plan) same)
 
       -- the hart's step with its answer is one more lone step
       one_more_is : (begun : List Core)
-          → one_more g.plan h t (in_turn here h v r bytes begun (Goes Started))
-          ≡ Some (in_turn there h v next now (begun ++ core_of r ∷ []) p)
+          → one_more g.plan h t (in_turn here h w r bytes begun (Goes Started))
+          ≡ Some (in_turn there h u next now (begun ++ core_of r ∷ []) p)
       unfolding lone_step
       one_more_is begun =
-          ap (one_more_of g.plan h t (in_turn here h v r bytes begun (Goes Started)))
-          (on_hart_at here h v (view_of v r Started) here_at)
+          ap (one_more_of g.plan h t (in_turn here h w r bytes begun (Goes Started)))
+          (on_hart_at here h w (view_of w r Started) here_at)
           ∙ ap (λ (o : Option VcpuView). option_map
-          (with_step (in_turn here h v r bytes begun (Goes Started)) (view_of v r Started))
-          (option_map (stepped g.plan h t (on_hart_of here h v r bytes Started)) o))
-          (on_hart_at here h v (view_of v r Started) here_at)
+          (with_step (in_turn here h w r bytes begun (Goes Started)) (view_of w r Started))
+          (option_map (stepped g.plan h t (on_hart_of here h w r bytes Started)) o))
+          (on_hart_at here h w (view_of w r Started) here_at)
           ∙ ap (λ (a : After). Some
-          (with_step (in_turn here h v r bytes begun (Goes Started)) (view_of v r Started) a))
+          (with_step (in_turn here h w r bytes begun (Goes Started)) (view_of w r Started) a))
           (sym step_is)
 
       module _ (made : ℕ) (more : made < 1000) (before after : List Regs)
-          (turning : IsTurning g h t v first here made r bytes before) (table : ℕ)
+          (turning : IsTurning g h t w first here made r bytes before) (table : ℕ)
           (grows : Grows table r before after) where
         begun_after : List Core
         begun_after = turning.begun ++ core_of r ∷ []
@@ -156,22 +154,22 @@ module _ (g : Guest) (h t : ℕ) (v : VcpuView) (first : List ℕ) (at : slice_g
             (OneMore turning.begun before (core_of r) grows.piece turning.pieces grows.shown)
 
         rest_after : iterate (one_more g.plan h t) (1000 - (made + 1))
-            (in_turn there h v next now begun_after p) ≡ whole_turn g.plan h t (lone_of g first)
+            (in_turn there h u next now begun_after p) ≡ whole_turn g.plan h t (lone_of g first)
         unfolding begun_after
         rest_after =
             sym (iterate_more (one_more g.plan h t) (1000 - (made + 1)) (1000 - made)
-            (in_turn here h v r bytes turning.begun (Goes Started))
-            (in_turn there h v next now (turning.begun ++ core_of r ∷ []) p)
+            (in_turn here h w r bytes turning.begun (Goes Started))
+            (in_turn there h u next now (turning.begun ++ core_of r ∷ []) p)
             (one_more_is turning.begun)
             (omega arith))
             ∙ turning.rest
 
         pub turning_goes_on : p ≡ Goes Started
-            → IsTurning g h t v first there (made + 1) next now after
+            → IsTurning g h t u first there (made + 1) next now after
         turning_goes_on started = record {
           begun = begun_after;
           rest = ap (λ s. iterate (one_more g.plan h t) (1000 - (made + 1))
-              (in_turn there h v next now begun_after s)) (sym started) ∙ rest_after;
+              (in_turn there h u next now begun_after s)) (sym started) ∙ rest_after;
           pieces = pieces_after;
         }
 
@@ -181,30 +179,28 @@ module _ (g : Guest) (h t : ℕ) (v : VcpuView) (first : List ℕ) (at : slice_g
         not_started Suspended h = refl
         not_started Stopped h = refl
 
-        none_more : (q : Progress) → (q ≡ Goes Started → ⊥) → Leaves q here there
-            → one_more g.plan h t (in_turn there h v next now begun_after q) ≡ None
-        none_more (Goes s) stopped leaves =
-            let there_at : slice_get there.vcpus h ≡ Some v =
-            ap (λ (x : Guest). slice_get x.vcpus h) leaves ∙ here_at in
-            ap (one_more_of g.plan h t (in_turn there h v next now begun_after (Goes s)))
-            (on_hart_at there h v (view_of v next s) there_at)
+        none_more : (q : Progress) → (q ≡ Goes Started → ⊥) → Shows q there h u
+            → one_more g.plan h t (in_turn there h u next now begun_after q) ≡ None
+        none_more (Goes s) stopped shows =
+            ap (one_more_of g.plan h t (in_turn there h u next now begun_after (Goes s)))
+            (on_hart_at there h u (view_of u next s) shows.at)
             ∙ cond-false (is_started s) _ None
             (not_started s (λ (e : s ≡ Started). stopped (ap Goes e)))
-        none_more GuestHalts stopped leaves =
-            over_halts g.plan h t (in_turn there h v next now begun_after GuestHalts)
-            (slice_get (with_view there h (view_of v next Started)).vcpus h) refl
-        none_more GuestReboots stopped leaves =
-            over_reboots g.plan h t (in_turn there h v next now begun_after GuestReboots)
+        none_more GuestHalts stopped shows =
+            over_halts g.plan h t (in_turn there h u next now begun_after GuestHalts)
+            (slice_get (with_view there h (view_of u next Started)).vcpus h) refl
+        none_more GuestReboots stopped shows =
+            over_reboots g.plan h t (in_turn there h u next now begun_after GuestReboots)
             (slice_get there.vcpus h) refl
 
         -- a turn that doesn't go on has come to its end
-        pub turning_stops : (p ≡ Goes Started → ⊥) → Leaves p here there
-            → IsTurned g h v t first there next now after p
-        turning_stops stopped leaves =
-            let last : in_turn there h v next now begun_after p
+        pub turning_stops : (p ≡ Goes Started → ⊥) → Shows p there h u
+            → IsTurned g h u t first there next now after p
+        turning_stops stopped shows =
+            let last : in_turn there h u next now begun_after p
             ≡ whole_turn g.plan h t (lone_of g first) =
             sym (iterate_over (one_more g.plan h t) (1000 - (made + 1))
-            (in_turn there h v next now begun_after p) (none_more p stopped leaves))
+            (in_turn there h u next now begun_after p) (none_more p stopped shows))
             ∙ rest_after in
             record {
               after = ap (λ (w : InTurn). and_onward w) last;
@@ -212,16 +208,16 @@ module _ (g : Guest) (h t : ℕ) (v : VcpuView) (first : List ℕ) (at : slice_g
                   (ap (λ w. w.begun) last) pieces_after;
             }
 
-    pub turning_ends : (now : Guest) (made : ℕ) (r : Regs) (bytes : List ℕ) (trail : List Regs)
-        → 1000 ≤ made → IsTurning g h t v first now made r bytes trail
-        → IsTurned g h v t first now r bytes trail (Goes Started)
-    turning_ends now made r bytes trail all turning =
-        let last : in_turn now h v r bytes turning.begun (Goes Started)
+    pub turning_ends : (now : Guest) (w : VcpuView) (made : ℕ) (r : Regs) (bytes : List ℕ)
+        (trail : List Regs) → 1000 ≤ made → IsTurning g h t w first now made r bytes trail
+        → IsTurned g h w t first now r bytes trail (Goes Started)
+    turning_ends now w made r bytes trail all turning =
+        let last : in_turn now h w r bytes turning.begun (Goes Started)
         ≡ whole_turn g.plan h t (lone_of g first) =
         sym (iterate_none (one_more g.plan h t)
-        (in_turn now h v r bytes turning.begun (Goes Started)))
+        (in_turn now h w r bytes turning.begun (Goes Started)))
         ∙ (ap (λ n. iterate (one_more g.plan h t) n
-        (in_turn now h v r bytes turning.begun (Goes Started)))
+        (in_turn now h w r bytes turning.begun (Goes Started)))
         (let e : 0 ≡ 1000 - made = omega arith in e)
         ∙ turning.rest) in
         record {
@@ -243,22 +239,15 @@ piece_few table r before after grows =
 
 -- ---- what a guest within a turn has of the one that began it
 
-module _ (g now : Guest) (same : now ≡ record g { devices = now.devices }) where
+module _ (g now : Guest) (same : Leaves g now) where
   pub held_now : holdings_of now ≡ holdings_of g
   held_now = ap holdings_of same
 
   pub key_now : now.key ≡ g.key
   key_now = ap (λ (x : Guest). x.key) same
 
-  pub same_next : (next : Guest) → next ≡ record now { devices = next.devices }
-      → next ≡ record g { devices = next.devices }
-  same_next next is = is ∙ ap (λ (x : Guest). record x { devices = next.devices }) same
-
-  pub leaves_next : (p : Progress) (next : Guest) → Leaves p now next → Leaves p g next
-  leaves_next (Goes state) next is = same_next next is
-  leaves_next GuestHalts next is =
-      is ∙ ap (λ (x : Guest). record x { devices = next.devices; state = next.state }) same
-  leaves_next GuestReboots next is =
+  pub leaves_next : (next : Guest) → Leaves now next → Leaves g next
+  leaves_next next is =
       is
       ∙ ap (λ (x : Guest). record x {
         devices = next.devices;
@@ -266,18 +255,25 @@ module _ (g now : Guest) (same : now ≡ record g { devices = now.devices }) whe
         state = next.state;
       }) same
 
-  pub may_now : (h : ℕ) (v : VcpuView) (bytes : List ℕ) → MayRun g h v bytes
-      → MayRun now h v bytes
-  may_now h v bytes may =
-      subst (λ (x : Guest). MayRun x h v bytes) (sym same)
-      (record {
+  -- the same of the first guest with what the other has
+  pub may_now : (h : ℕ) (v w : VcpuView) (bytes : List ℕ) → MayRun g h v bytes
+      → IsViewAt now h w → MayRun now h w bytes
+  may_now h v w bytes may view =
+      let of_same : (x : Guest) → x ≡ record g {
+        devices = now.devices;
+        vcpus = now.vcpus;
+        state = now.state;
+      } → slice_get x.vcpus h ≡ Some w → MayRun x h w bytes =
+      λ x is at. subst (λ (y : Guest). (slice_get y.vcpus h ≡ Some w) → MayRun y h w bytes) (sym is)
+      (λ there. record {
         held = may.held;
         accepted = may.accepted;
         root = may.root;
         small = may.small;
-        vcpu = may.vcpu;
-        view = may.view;
-      })
+        vcpu = there;
+        view = view.kept;
+      }) at in
+      of_same now same view.at
 
   pub on_now : (t : ℕ) (r : Regs) → IsOnHart g t r → IsOnHart now t r
   on_now t r on =
@@ -286,14 +282,17 @@ module _ (g now : Guest) (same : now ≡ record g { devices = now.devices }) whe
 
   pub on_first : (t : ℕ) (r : Regs) → IsOnHart now t r → IsOnHart g t r
   on_first t r on =
-      let of_same : IsOnHart (record g { devices = now.devices }) t r =
-      subst (λ (x : Guest). IsOnHart x t r) same on in
+      let of_same : IsOnHart (record g {
+        devices = now.devices;
+        vcpus = now.vcpus;
+        state = now.state;
+      }) t r = subst (λ (x : Guest). IsOnHart x t r) same on in
       record { root = of_same.root; time = of_same.time; reserved = of_same.reserved }
 
 -- ---- what the whole turn gives
 
 module _ (g : Guest) (h t : ℕ) (v : VcpuView) (first : List ℕ) (now : Guest) (r : Regs)
-    (bytes : List ℕ) (trail : List Regs) (at : slice_get g.vcpus h ≡ Some v) where
+    (bytes : List ℕ) (trail : List Regs) where
   shown_is : (p : Progress) → lone_of (shown_guest now h v r p) bytes
       ≡ (after_of now h v r bytes p).on_hart.machine
   shown_is (Goes state) = refl
@@ -301,7 +300,7 @@ module _ (g : Guest) (h t : ℕ) (v : VcpuView) (first : List ℕ) (now : Guest)
   shown_is GuestReboots = refl
 
   -- the guest is its lone machine, and what it was else
-  pub guest_back : (p : Progress) → Leaves p g now → shown_guest now h v r p
+  pub guest_back : (p : Progress) → Leaves g now → shown_guest now h v r p
       ≡ with_machine g (lone_of (shown_guest now h v r p) bytes)
   guest_back (Goes state) leaves =
       ap (λ (x : Guest). with_view x h (view_of v r state)) leaves
@@ -317,14 +316,13 @@ module _ (g : Guest) (h t : ℕ) (v : VcpuView) (first : List ℕ) (now : Guest)
   abbrev ending_in_after : After → TurnEnd
   ending_in_after a = ending_of a.onward (slice_get a.on_hart.machine.vcpus h)
 
-  end_is : (p : Progress) → Leaves p g now → end_of p
+  end_is : (p : Progress) → Shows p now h v → end_of p
       ≡ ending_in_after (after_of now h v r bytes p)
-  end_is (Goes state) leaves =
-      ap (ending_of On) (sym (on_hart_at now h v (view_of v r state)
-      (ap (λ (x : Guest). slice_get x.vcpus h) leaves ∙ at)))
-  end_is GuestHalts leaves =
+  end_is (Goes state) shows =
+      ap (ending_of On) (sym (on_hart_at now h v (view_of v r state) shows.at))
+  end_is GuestHalts shows =
       sym (ends_halted (slice_get (with_view now h (view_of v r Started)).vcpus h))
-  end_is GuestReboots leaves = sym (ends_rebooted (slice_get now.vcpus h))
+  end_is GuestReboots shows = sym (ends_rebooted (slice_get now.vcpus h))
 
   module _ (p : Progress) (end : IsTurned g h v t first now r bytes trail p) where
     pub turned_is : lone_of (shown_guest now h v r p) bytes ≡ turn g.plan h t (lone_of g first)
@@ -335,9 +333,9 @@ module _ (g : Guest) (h t : ℕ) (v : VcpuView) (first : List ℕ) (now : Guest)
     unfolding visited
     trail_is = end.pieces
 
-    pub ending_is : Leaves p g now → end_of p ≡ ending g.plan h t (lone_of g first)
+    pub ending_is : Shows p now h v → end_of p ≡ ending g.plan h t (lone_of g first)
     unfolding ending
-    ending_is leaves = end_is p leaves ∙ ap ending_in_after end.after
+    ending_is shows = end_is p shows ∙ ap ending_in_after end.after
 
 -- a lone step has an entry or more in the trail
 trail_counts : (cores : List Core) (trail : List Regs) → IsTrail core_of cores trail

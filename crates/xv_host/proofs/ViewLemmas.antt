@@ -1,6 +1,6 @@
 -- One VCPU of a guest, put back into its lone machine.
 use Rattle.std.proofs.Common.{◌≡◌, ℕ, zero, suc, ◌<◌, List, [], ◌∷◌, length, set, refl, sym, ap}
-use Rattle.std.proofs.Common.{◌∙◌, arith, eqb, Some, slice_get}
+use Rattle.std.proofs.Common.{◌∙◌, arith, eqb, Option, Some, slice_get}
 use Rattle.std.proofs.lemmas.Bool.{cond-false, ne_eqb}
 use Rattle.xv_lone.specs.declared.vcpu.VcpuView.{VcpuView}
 use Rattle.xv_lone.specs.Machine.{Machine, on_vcpu, on_vcpu_of, with_vcpu}
@@ -13,10 +13,13 @@ use Rattle.xv_csr.specs.Pending.{pending}
 use Rattle.xv_isa.specs.Length.{next_pc}
 use Rattle.xv_hart.specs.declared.regs.Regs.{Regs}
 use Rattle.xv_hart.specs.Step.{after_trap, held_of}
-use Rattle.xv_step.specs.State.{held_as}
+use Rattle.xv_lone.specs.Memory.{Place}
+use Rattle.xv_step.specs.State.{Held, held_as}
 use Rattle.xv_guest.specs.Guest.{held_of as holdings_of}
-use Rattle.xv_host.specs.declared.monitor.Progress.TheVariants.{Goes}
-use Rattle.xv_host.specs.Monitor.{ecall_word}
+use Rattle.xv_firmware.specs.declared.calls.Progress.{Progress}
+use Rattle.xv_firmware.specs.declared.calls.Progress.TheVariants as progress
+use Rattle.xv_firmware.specs.declared.calls.Progress.TheVariants.{Goes}
+use Rattle.xv_firmware.specs.Calls.{InState, after_guest}
 use Rattle.xv_host.specs.OnHart.{after_of, lines_of_vcpu, on_hart_of, view_of, with_view}
 use Rattle.xv_host.specs.Spots.{place_of}
 
@@ -30,6 +33,12 @@ pub slice_get-set : {X : Type 0} (xs : List X) (i : ℕ) (x : X) → i < length 
 slice_get-set [] i x within = absurd (omega arith)
 slice_get-set (z ∷ xs) zero x within = refl
 slice_get-set (z ∷ xs) (suc i) x within = slice_get-set xs i x (omega arith)
+
+pub set-same : {X : Type 0} (xs : List X) (i : ℕ) (x : X) → slice_get xs i ≡ Some x → set xs i x ≡
+    xs
+set-same [] i x at = refl
+set-same (z ∷ xs) zero x at = let same : z ≡ x = cc in ap (λ y. y ∷ xs) (sym same)
+set-same {X} (z ∷ xs) (suc i) x at = ap (λ (ys : List X). z ∷ ys) (set-same xs i x at)
 
 module _ (g : Guest) (h : ℕ) (bytes : List ℕ) where
   -- the second of two views is left
@@ -74,18 +83,6 @@ module _ (g : Guest) (h : ℕ) (v : VcpuView) (bytes : List ℕ) where
       ap (λ (n : Regs). after_of g h v n bytes (Goes Started)) is
       ∙ back_is r (after_trap cause va r) Started
 
-  -- a call that SBI doesn't have
-  pub call_back : (t n : ℕ) (r : Regs) → n ≡ next_pc r.pc ecall_word → h < length g.vcpus
-      → after_of g h v
-      (record r { x = set (set r.x 10 lone.not_supported) 11 0; pc = n }) bytes (Goes Started)
-      ≡ lone.calls g.plan h t (on_hart_of g h v r bytes Started) (view_of v r Started)
-      (next_pc r.pc ecall_word)
-  call_back t n r is within =
-      ap (λ (k : ℕ). after_of g h v
-      (record r { x = set (set r.x 10 lone.not_supported) 11 0; pc = k }) bytes (Goes Started)) is
-      ∙ sym (ap (after_machine r) (on_view g h bytes (view_of v r Started)
-      (lone.with_reply (next_pc r.pc ecall_word) lone.not_supported 0) within))
-
   pub wait_back : (t n word : ℕ) (r : Regs) (state : HartState) → n ≡ next_pc r.pc word
       → state ≡ after_wait (pending r.csrs (lines_of_vcpu g h t v))
       → after_of g h v (record r { pc = n }) bytes (Goes state)
@@ -104,3 +101,32 @@ waits_on_none interrupts none = ap after_wait (sym none)
 pub goes_on_some : (interrupts : ℕ) → (interrupts ≡ 0 → ⊥) → Started ≡ after_wait interrupts
 goes_on_some interrupts some =
     sym (cond-false (eqb interrupts 0) Waiting Started (ne_eqb interrupts 0 some))
+
+-- ---- the VCPU of a guest that the hart shows as it is there
+
+module _ (g : Guest) (h : ℕ) (u : VcpuView) (r : Regs) (bytes : List ℕ)
+    (at : slice_get g.vcpus h ≡ Some u)
+    (same : r ≡ record r { x = u.x; pc = u.pc; user = u.user; csrs = u.csrs }) where
+  shown : (state : HartState) → u.hart ≡ state → view_of u r state ≡ u
+  shown state is =
+      ap (λ (n : Regs). view_of u n state) same
+      ∙ ap (λ (s : HartState). record u { hart = s }) (sym is)
+
+  in_guest : (state : HartState) → u.hart ≡ state → with_view g h (view_of u r state) ≡ g
+  in_guest state is =
+      ap (λ (w : VcpuView). with_view g h w) (shown state is)
+      ∙ ap (λ (vs : List VcpuView). record g { vcpus = vs }) (set-same g.vcpus h u at)
+
+  abbrev kept : Option (Held Place)
+  kept = held_as (place_of (holdings_of g)) (held_of r.held)
+
+  pub after_is : (p : Progress) → InState p u.hart
+      → after_of g h u r bytes p ≡ after_guest g kept bytes p
+  after_is (progress.Goes state) is =
+      ap (λ (x : Guest). after_guest (record g { vcpus = x.vcpus }) kept bytes (progress.Goes
+      state))
+      (in_guest state is)
+  after_is progress.Halts is =
+      ap (λ (x : Guest). after_guest (record g { vcpus = x.vcpus }) kept bytes progress.Halts)
+      (in_guest Started is)
+  after_is progress.Reboots is = refl

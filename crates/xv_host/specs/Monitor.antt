@@ -1,6 +1,8 @@
--- The monitor: by the trap and by the word at the pc alone it gives what the lone machine answers to
+-- The monitor: by the trap and by the word at the pc alone it gives what the lone machine answers
+-- to
 -- the ask that the hart left.
-use Rattle.std.specs.Prelude.{ℕ, ◌≡◌, ◌≢◌, ◌+◌, ◌*◌, ◌%◌, ◌==◌, if◌then◌else◌, List, Option, Some, None}
+use Rattle.std.specs.Prelude.{ℕ, ◌≡◌, ◌≢◌, ◌+◌, ◌*◌, ◌%◌, ◌==◌, if◌then◌else◌, List, Option, Some}
+use Rattle.std.specs.Prelude.{None}
 use Rattle.std.specs.Prelude.{option_and_then, unwrap_or}
 use Rattle.xv_isa.specs.Effects as effects
 use Rattle.xv_isa.specs.Length.{next_pc}
@@ -16,6 +18,7 @@ use Rattle.xv_step.specs.Step.{fetched_word}
 use Rattle.xv_hart.specs.Memory.{bus_of}
 use Rattle.xv_hart.specs.Step.{state_of}
 use Rattle.xv_hart.specs.declared.regs.Regs.{Regs}
+use Rattle.xv_firmware.specs.Calls.{ecall_word}
 use Rattle.xv_host.specs.declared.emulate.Emulated.{Emulated}
 use Rattle.xv_step.specs.Outcome.{access_kind, address_of, width_of}
 use Rattle.xv_pte.specs.declared.access.Kind3.TheVariants.{Fetch, Load, Store}
@@ -27,10 +30,6 @@ use Rattle.xv_region.specs.declared.cell.Cell.TheVariants as cells
 use Rattle.xv_region.specs.Cell.{cell}
 use Rattle.xv_region.specs.Plan.{Plan}
 use Rattle.xv_lone.specs.Step.{OnHart, After, by_device, calls, waits, faults}
-
--- the word of ECALL
-abbrev pub ecall_word : ℕ
-ecall_word = 0x73
 
 -- ---- what a guest-page fault is about (Privileged Architecture 20211203, 8.6.3)
 

@@ -23,11 +23,12 @@ use Rattle.xv_lone.specs.Step.{OnHart, After, On, Halts, Reboots, lines_at}
 use Rattle.xv_lone.specs.Trail.{IsTrail, IsPiece, most_tries}
 use Rattle.xv_lone.specs.Turn as turns
 use Rattle.xv_lone.specs.Turn.{Core}
+use Rattle.xv_firmware.specs.Calls.{Leaves}
 use Rattle.xv_guest.specs.Guest.{Guest, IsView, held_of, lone_of}
 use Rattle.xv_guest.specs.Held.{Held, IsHeld}
 use Rattle.xv_host.specs.Change.{time_of}
-use Rattle.xv_host.specs.declared.monitor.Progress.{Progress}
-use Rattle.xv_host.specs.declared.monitor.Progress.TheVariants as progress
+use Rattle.xv_firmware.specs.declared.calls.Progress.{Progress}
+use Rattle.xv_firmware.specs.declared.calls.Progress.TheVariants as progress
 use Rattle.xv_host.specs.Join.{StandsIn}
 use Rattle.xv_host.specs.Spots.{place_of}
 
@@ -107,13 +108,25 @@ module _ (g : Guest) (h : ℕ) (v : VcpuView) where
   after_of r bytes progress.Reboots =
       record { on_hart = record { machine = lone_of g bytes; held = None }; onward = Reboots }
 
--- what of the guest a lone step may change: the devices, a halt its state, a reboot its VCPUs too
-abbrev pub Leaves : Progress → (old new : Guest) → Type 0
-Leaves (progress.Goes state) old new = new ≡ record old { devices = new.devices }
-Leaves progress.Halts old new =
+-- what of the guest an access to a device may change: the devices, a halt its state, a reboot its
+-- VCPUs too
+abbrev pub AccessLeaves : Progress → (old new : Guest) → Type 0
+AccessLeaves (progress.Goes state) old new = new ≡ record old { devices = new.devices }
+AccessLeaves progress.Halts old new =
     new ≡ record old { devices = new.devices; state = new.state }
-Leaves progress.Reboots old new =
-    new ≡ record old { devices = new.devices; vcpus = new.vcpus; state = new.state }
+AccessLeaves progress.Reboots old new = Leaves old new
+
+-- VCPU h of the guest is this
+pub record IsViewAt (g : Guest) (h : ℕ) (v : VcpuView) : Type 0 where
+  pub at : slice_get g.vcpus h ≡ Some v
+  pub kept : IsView v
+
+-- after a lone step that left it so this is VCPU h, but for what the hart shows of it. Those of a
+-- guest that reboots are new
+abbrev pub Shows : Progress → Guest → (h : ℕ) → VcpuView → Type 0
+Shows (progress.Goes state) g h v = IsViewAt g h v
+Shows progress.Halts g h v = IsViewAt g h v
+Shows progress.Reboots g h v = Unit {0}
 
 -- the guest after a turn that stands so: the VCPU is what the hart shows, but for a reboot's
 abbrev pub IsShown : Progress → Type 0

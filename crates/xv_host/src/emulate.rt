@@ -2,31 +2,30 @@
 ghost use Rattle.std.specs.Prelude.{◌≡◌, ◌≢◌, ℕ, ◌+◌, ◌<◌, ◌≤◌, List, length, None, Some, IfSome};
 ghost use Rattle.std.specs.Prelude.{unwrap_or};
 ghost use Rattle.xv_bus.specs.Access.{Fits};
-ghost use Rattle.xv_isa.specs.Effects as effects;
-ghost use Rattle.xv_isa.specs.Encoding.{InRange};
-ghost use Rattle.xv_region.specs.Plan.{Plan};
-ghost use Rattle.xv_host.specs.Monitor.{width_of_bus};
 ghost use Rattle.xv_csr.specs.Cause as causes;
 ghost use Rattle.xv_csr.specs.Fields.{IsInstructionAddress};
-ghost use Rattle.xv_emul.specs.Emulation.{access_of, after_load, at_bus, is_bus_load, is_load};
+ghost use Rattle.xv_isa.specs.Effects as effects;
+ghost use Rattle.xv_isa.specs.Encoding.{InRange};
 ghost use Rattle.xv_isa.specs.Length.{next_pc};
+ghost use Rattle.xv_emul.specs.Emulation.{access_of, after_load, at_bus, is_bus_load, is_load};
 ghost use Rattle.xv_region.specs.Cell.{cell};
+ghost use Rattle.xv_region.specs.Plan.{Plan};
 ghost use Rattle.xv_region.specs.Rules.{Accepted};
 ghost use Rattle.xv_step.specs.Outcome.{access_fault, access_kind, address_of};
 ghost use Rattle.xv_hart.specs.Memory.{HasMemory};
 ghost use Rattle.xv_hart.specs.Step.{IsWellFormed};
-ghost use Rattle.xv_guest.specs.Guest.{held_of, lone_of};
+ghost use Rattle.xv_guest.specs.Guest.{held_of};
 ghost use Rattle.xv_guest.specs.Held.{IsHeld};
-ghost use Rattle.xv_lone.specs.Machine.{rebooted};
 ghost use Rattle.xv_lone.specs.Step.{by_device};
 ghost use Rattle.xv_lone.specs.declared.vcpu.HartState.TheVariants as states;
 ghost use Rattle.xv_host.specs.Join.{IsGoodFor};
 ghost use Rattle.xv_host.specs.Monitor.{IsAbout, IsEmulated, TellsAccess, access_by};
-ghost use Rattle.xv_host.specs.Monitor.{device_access, gpa_of, kind_of_cause, page_faulted, word_of};
-ghost use Rattle.xv_host.specs.OnHart.{Leaves, after_of, on_hart_of, view_of};
+ghost use Rattle.xv_host.specs.Monitor.{device_access, gpa_of, kind_of_cause, page_faulted};
+ghost use Rattle.xv_host.specs.Monitor.{word_of};
+ghost use Rattle.xv_host.specs.Monitor.{width_of_bus};
+ghost use Rattle.xv_host.specs.OnHart.{AccessLeaves, after_of, on_hart_of, view_of};
 
-use crate::lifecycle::start_first;
-use crate::monitor::{Progress, fault};
+use crate::monitor::fault;
 use std::sync::ledger::Ledger;
 use xv_base::VcpuNo;
 use xv_bus::{Access, Outcome, Width};
@@ -35,6 +34,7 @@ use xv_csr::cause::{
     LOAD_GUEST_PAGE_FAULT, STORE_ACCESS_FAULT,
 };
 use xv_emul::{emulate, write_back};
+use xv_firmware::{Progress, reboot};
 use xv_guest::{Guest, GuestState, HartState, VcpuView};
 use xv_hart::{HTrap, Regs};
 use xv_isa::{Insn, decode, next_pc};
@@ -77,7 +77,7 @@ pub(crate) fn page_fault<L: Ledger>(
         (on_hart_of guest.old vcpu view.now regs.old mem.old states.Started)
         (view_of view.now regs.old states.Started) (word_of regs.old mem.old) trap.now
         (device_access guest.old.plan (word_of regs.old mem.old) regs.old.x trap.now) }
-    ensures leaves { Leaves result guest.old guest.new }
+    ensures leaves { AccessLeaves result guest.old guest.new }
     ensures time { regs.new.time ≡ regs.old.time }
     ensures h { regs.new.h ≡ regs.old.h }
     ensures held { regs.new.held ≡ regs.old.held }
@@ -88,7 +88,7 @@ pub(crate) fn page_fault<L: Ledger>(
     let _plan = guest.plan();
     let cause = access_fault_of(trap.cause);
     match find_access(guest.map(), regs, mem, trap, steps) {
-        Some(e) => reach(guest, vcpu, view, regs, mem, &e, cause, trap.tval),
+        Some(emulated) => answer_access(guest, vcpu, view, regs, mem, &emulated, cause, trap.tval),
         None => Progress::Goes(fault(regs, cause, trap.tval)),
     }
 }
@@ -169,50 +169,50 @@ fn bytes_of(access: &Access) -> u64
 }
 
 /// The device answers. What it refuses is an access fault, of this cause and at this address.
-fn reach(
+fn answer_access(
     guest: &mut Guest,
     vcpu: VcpuNo,
     view: &VcpuView,
     regs: &mut Regs,
     mem: &mut HostMem,
-    e: &Emulated,
+    emulated: &Emulated,
     cause: u64,
     va: u64,
 ) -> Progress
     requires number { vcpu < length guest.old.vcpus }
     requires formed { IsWellFormed regs.old }
     requires held { IsHeld mem.old (held_of guest.old) }
-    requires region { e.now.region < length guest.old.devices }
-    requires fits { Fits e.now.access }
-    requires range { InRange e.now.insn }
-    requires next { IsInstructionAddress e.now.next }
-    requires load { is_bus_load (Some e.now.access)
-        ≡ is_load (access_of e.now.insn regs.old.x) }
-    ensures reached { (plain : effects.Access) → access_of e.now.insn regs.old.x ≡ Some plain
-        → at_bus plain ≡ e.now.access → access_fault (access_kind plain) ≡ cause
+    requires region { emulated.now.region < length guest.old.devices }
+    requires fits { Fits emulated.now.access }
+    requires range { InRange emulated.now.insn }
+    requires next { IsInstructionAddress emulated.now.next }
+    requires load { is_bus_load (Some emulated.now.access)
+        ≡ is_load (access_of emulated.now.insn regs.old.x) }
+    ensures reached { (plain : effects.Access) → access_of emulated.now.insn regs.old.x ≡ Some plain
+        → at_bus plain ≡ emulated.now.access → access_fault (access_kind plain) ≡ cause
         → address_of plain ≡ va → after_of guest.new vcpu view.now regs.new mem.new result
         ≡ by_device guest.old.plan vcpu (view_of view.now regs.old states.Started) plain
-        e.now.next (on_hart_of guest.old vcpu view.now regs.old mem.old states.Started)
-        e.now.region e.now.offset }
-    ensures leaves { Leaves result guest.old guest.new }
+        emulated.now.next (on_hart_of guest.old vcpu view.now regs.old mem.old states.Started)
+        emulated.now.region emulated.now.offset }
+    ensures leaves { AccessLeaves result guest.old guest.new }
     ensures time { regs.new.time ≡ regs.old.time }
     ensures h { regs.new.h ≡ regs.old.h }
     ensures held { regs.new.held ≡ regs.old.held }
     ensures formed { IsWellFormed regs.new }
     ensures good { IsGoodFor (held_of guest.old) mem.old mem.new }
 {
-    match guest.access(mem, e.region, e.offset, e.access) {
+    match guest.access(mem, emulated.region, emulated.offset, emulated.access) {
         Outcome::Value(value) => {
-            retire(regs, e, value);
+            retire(regs, emulated, value);
             Progress::Goes(HartState::Started)
         }
         Outcome::Done => {
-            retire(regs, e, 0);
+            retire(regs, emulated, 0);
             Progress::Goes(HartState::Started)
         }
         Outcome::Refused => Progress::Goes(fault(regs, cause, va)),
         Outcome::Halt(ending) => {
-            retire(regs, e, 0);
+            retire(regs, emulated, 0);
             let birth = guest.birth();
             guest.put(GuestState::Halted(ending), birth);
             Progress::Halts
@@ -225,33 +225,17 @@ fn reach(
 }
 
 /// The instruction has made its access, which gave this value, and the next one follows.
-fn retire(regs: &mut Regs, e: &Emulated, value: u64)
-    requires range { InRange e.now.insn }
-    requires load { is_bus_load (Some e.now.access)
-        ≡ is_load (access_of e.now.insn regs.old.x) }
+fn retire(regs: &mut Regs, emulated: &Emulated, value: u64)
+    requires range { InRange emulated.now.insn }
+    requires load { is_bus_load (Some emulated.now.access)
+        ≡ is_load (access_of emulated.now.insn regs.old.x) }
     ensures retired { regs.new ≡ record regs.old {
-      x = after_load (access_of e.now.insn regs.old.x) value regs.old.x;
-      pc = e.now.next;
+      x = after_load (access_of emulated.now.insn regs.old.x) value regs.old.x;
+      pc = emulated.now.next;
     } }
 {
-    if let Access::Load(_) = e.access {
-        write_back(&e.insn, &mut regs.x, value);
+    if let Access::Load(_) = emulated.access {
+        write_back(&emulated.insn, &mut regs.x, value);
     }
-    regs.pc = e.next;
-}
-
-/// The guest reboots: it has reset values, and its first VCPU is started.
-fn reboot(guest: &mut Guest)
-    ensures rebooted { (bytes : List ℕ) → lone_of guest.new bytes
-        ≡ rebooted guest.old.plan (lone_of guest.old bytes) }
-    ensures others { guest.new ≡ record guest.old {
-      devices = guest.new.devices;
-      vcpus = guest.new.vcpus;
-      state = guest.new.state;
-    } }
-{
-    let birth = guest.birth();
-    guest.reset();
-    start_first(guest);
-    guest.put(GuestState::Running, birth);
+    regs.pc = emulated.next;
 }

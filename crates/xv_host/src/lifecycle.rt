@@ -4,8 +4,6 @@ ghost use Rattle.std.specs.Prelude.{OnErr, [], slice_get};
 ghost use Rattle.xv_lone.specs.Journal as journal;
 ghost use Rattle.xv_lone.specs.Ready as ready;
 ghost use Rattle.xv_guest.specs.Guest.{lone_of, with_machine};
-ghost use Rattle.xv_lone.specs.Machine.{on_vcpu};
-ghost use Rattle.xv_lone.specs.Vcpu.{kicked_vcpu};
 ghost use Rattle.xv_host.specs.Change.{IsChange, OfGuest, changed, may_turn};
 ghost use Rattle.xv_host.specs.Host.{IsHosted};
 ghost use Rattle.xv_host.specs.Lifecycle.{entry_of, is_allowed};
@@ -16,6 +14,7 @@ use crate::monitor::lines;
 use crate::turn::time_at;
 use xv_base::{GuestKey, VcpuNo};
 use xv_bus::Ending;
+use xv_firmware::start_first;
 use xv_guest::{Guest, GuestState, HartState};
 
 /// A command on a guest's state.
@@ -118,20 +117,6 @@ fn apply(guest: &mut Guest, change: Change)
         Change::Resume => guest.put(GuestState::Running, birth),
         Change::Halt => guest.put(GuestState::Halted(Ending::Command), birth),
     }
-}
-
-/// Starts the first VCPU of a guest, if it has one.
-pub(crate) fn start_first(guest: &mut Guest)
-    ensures started { (bytes : List ℕ) → lone_of guest.new bytes
-        ≡ on_vcpu 0 kicked_vcpu (lone_of guest.old bytes) }
-    ensures others { guest.new ≡ record guest.old { vcpus = guest.new.vcpus } }
-{
-    if guest.plan().vcpus.is_empty() {
-        return;
-    }
-    let first = VcpuNo(0);
-    let view = guest.view(first).kicked();
-    guest.set_view(first, &view);
 }
 
 /// Whether a VCPU of a guest that runs may have a turn at guest time `time`.

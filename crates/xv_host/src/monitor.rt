@@ -5,19 +5,21 @@ ghost use Rattle.xv_hart.specs.Hart.{regs_of, taken_by, trail_of, room_of};
 ghost use Rattle.xv_hart.specs.Memory.{HasMemory};
 ghost use Rattle.xv_hart.specs.Step.{after_trap, IsWellFormed};
 ghost use Rattle.xv_region.specs.Rules.{Accepted};
-ghost use Rattle.xv_guest.specs.Guest.{held_of};
+ghost use Rattle.xv_firmware.specs.Calls.{Leaves, ecall_word};
+ghost use Rattle.xv_guest.specs.Guest.{IsView, held_of};
 ghost use Rattle.xv_guest.specs.Held.{IsHeld};
 ghost use Rattle.xv_lone.specs.Step as lone;
 ghost use Rattle.xv_lone.specs.Trail.{most_tries};
 ghost use Rattle.xv_lone.specs.declared.vcpu.HartState.TheVariants as states;
 ghost use Rattle.xv_host.specs.Join.{IsGoodFor};
-ghost use Rattle.xv_host.specs.Monitor.{TellsAccess, access_by, monitored, ecall_word, word_of};
+ghost use Rattle.xv_host.specs.Monitor.{TellsAccess, access_by, monitored, word_of};
 ghost use Rattle.xv_host.specs.OnHart.{after_of, on_hart_of, view_of, lines_of_vcpu};
-ghost use Rattle.xv_host.specs.OnHart.{with_lines_of, Grows, IsOnHart, Leaves, MayRun};
-ghost use Rattle.xv_host.specs.OnHart.{most_accesses};
-ghost use Rattle.xv_host.specs.declared.monitor.Progress.TheVariants as progress;
+ghost use Rattle.xv_host.specs.OnHart.{with_lines_of, Grows, IsOnHart, IsViewAt};
+ghost use Rattle.xv_host.specs.OnHart.{MayRun, Shows, most_accesses};
+ghost use Rattle.xv_firmware.specs.declared.calls.Progress.TheVariants as progress;
 
 use crate::emulate::page_fault;
+use crate::turn::shown_view;
 use std::sync::ledger::Ledger;
 use xv_base::VcpuNo;
 use xv_csr::Lines;
@@ -25,22 +27,12 @@ use xv_csr::cause::{
     ENVIRONMENT_CALL_FROM_VS, INSTRUCTION_ACCESS_FAULT, INSTRUCTION_GUEST_PAGE_FAULT,
     VIRTUAL_INSTRUCTION,
 };
+use xv_firmware::{Progress, call};
 use xv_guest::{Guest, HartState, VcpuView};
 use xv_hart::{Exit, HTrap, Hart, Machine, Regs};
 use xv_isa::next_pc;
 use xv_mem::{HostMem, Steps};
 use xv_trap::enter;
-
-// the word of ECALL
-const ECALL: u32 = 0x0000_0073;
-
-// the answer of SBI to a call that it doesn't have
-const NOT_SUPPORTED: u64 = u64::MAX - 1;
-
-// the registers of an answer's error and value
-const A0: usize = 10;
-
-const A1: usize = 11;
 
 /// The interrupt lines of a VCPU at a guest time, as they are now.
 pub(crate) fn lines(guest: &Guest, vcpu: VcpuNo, view: &VcpuView, time: u64) -> Lines
@@ -52,39 +44,29 @@ pub(crate) fn lines(guest: &Guest, vcpu: VcpuNo, view: &VcpuView, time: u64) -> 
     }
 }
 
-/// How the turn of a VCPU stands after a lone step.
-#[derive(Clone, Copy)]
-pub(crate) enum Progress {
-    /// The VCPU is in this hart state.
-    Goes(HartState),
-    /// The guest halted.
-    Halts,
-    /// The guest rebooted.
-    Reboots,
-}
-
 /// One lone step, at guest time `time`, of the VCPU that is on the hart. The interrupt lines are
 /// those of this moment.
 pub(crate) fn lone_step<L: Ledger>(
     guest: &mut Guest,
     vcpu: VcpuNo,
-    view: &VcpuView,
+    view: &mut VcpuView,
     machine: &mut Machine,
     time: u64,
     steps: &mut Steps<L>,
 ) -> Progress
-    requires may { MayRun guest.old vcpu view.now machine.old.mem }
+    requires may { MayRun guest.old vcpu view.old machine.old.mem }
     requires on { IsOnHart guest.old time (regs_of machine.old.hart) }
     requires formed { IsWellFormed (regs_of machine.old.hart) }
     requires room { length (trail_of machine.old.hart) + most_tries ≤ room_of machine.old.hart }
     requires few { taken_by machine.old.hart < 2 ^ 63 }
 
-    ensures stepped { after_of guest.new vcpu view.now
+    ensures stepped { after_of guest.new vcpu view.new
         (regs_of machine.new.hart) machine.new.mem result
-        ≡ lone.stepped guest.old.plan vcpu time (on_hart_of guest.old vcpu view.now
+        ≡ lone.stepped guest.old.plan vcpu time (on_hart_of guest.old vcpu view.old
         (regs_of machine.old.hart) machine.old.mem states.Started)
-        (view_of view.now (regs_of machine.old.hart) states.Started) }
-    ensures leaves { Leaves result guest.old guest.new }
+        (view_of view.old (regs_of machine.old.hart) states.Started) }
+    ensures leaves { Leaves guest.old guest.new }
+    ensures view { Shows result guest.new vcpu view.new }
     ensures on { IsOnHart guest.old time (regs_of machine.new.hart) }
     ensures formed { IsWellFormed (regs_of machine.new.hart) }
     ensures trail { Grows guest.old.key (regs_of machine.old.hart) (trail_of machine.old.hart)
@@ -115,12 +97,14 @@ pub(crate) fn lone_step<L: Ledger>(
     progress
 }
 
-/// Answers a trap: a call, a wait, an access to a device, or one to memory that isn't there.
+/// Answers a trap: a call, a wait, an access to a device, or one to memory that isn't there. Few
+/// steps leave one.
+#[cold]
 #[tactic(auto, using(crate::proofs::ViewLemmas::fault_back))]
 fn answer<L: Ledger>(
     guest: &mut Guest,
     vcpu: VcpuNo,
-    view: &VcpuView,
+    view: &mut VcpuView,
     regs: &mut Regs,
     mem: &mut HostMem,
     time: u64,
@@ -128,25 +112,27 @@ fn answer<L: Ledger>(
     steps: &mut Steps<L>,
 ) -> Progress
     requires number { vcpu < length guest.old.vcpus }
+    requires view { IsViewAt guest.old vcpu view.old }
     requires formed { IsWellFormed regs.old }
     requires memory { HasMemory regs.old mem.old }
     requires held { IsHeld mem.old (held_of guest.old) }
     requires accepted { Accepted guest.old.plan.regions }
     requires tells { TellsAccess (access_by (word_of regs.old mem.old) regs.old.x) trap.now }
-    ensures monitored { after_of guest.new vcpu view.now regs.new mem.new result
+    ensures monitored { after_of guest.new vcpu view.new regs.new mem.new result
         ≡ monitored guest.old.plan vcpu time
-        (on_hart_of guest.old vcpu view.now regs.old mem.old states.Started)
-        (view_of view.now regs.old states.Started) (word_of regs.old mem.old) trap.now }
-    ensures leaves { Leaves result guest.old guest.new }
+        (on_hart_of guest.old vcpu view.old regs.old mem.old states.Started)
+        (view_of view.old regs.old states.Started) (word_of regs.old mem.old) trap.now }
+    ensures leaves { Leaves guest.old guest.new }
+    ensures view { Shows result guest.new vcpu view.new }
     ensures time { regs.new.time ≡ regs.old.time }
-    ensures h { regs.new.h ≡ regs.old.h }
+    ensures h { regs.new.h ≡ record regs.old.h { hvip = regs.new.h.hvip } }
     ensures held { regs.new.held ≡ regs.old.held }
     ensures formed { IsWellFormed regs.new }
     ensures good { IsGoodFor (held_of guest.old) mem.old mem.new }
     ensures counted { steps.new ≤ steps.old + 16 }
 {
     match trap.cause as u64 {
-        ENVIRONMENT_CALL_FROM_VS => Progress::Goes(call(guest, vcpu, view, regs)),
+        ENVIRONMENT_CALL_FROM_VS => answer_call(guest, vcpu, view, regs, time),
         VIRTUAL_INSTRUCTION => Progress::Goes(wait(guest, vcpu, view, regs, time, trap.word)),
         INSTRUCTION_GUEST_PAGE_FAULT => {
             Progress::Goes(fault(regs, INSTRUCTION_ACCESS_FAULT, trap.tval))
@@ -198,22 +184,58 @@ fn set_lines(hart: &mut Hart, lines: Lines)
     }
 }
 
-// A call that isn't supported, as each is so far.
-fn call(guest: &Guest, vcpu: VcpuNo, view: &VcpuView, regs: &mut Regs) -> HartState
-    requires number { vcpu < length guest.now.vcpus }
+/// Answers a call of the VCPU that is on the hart. It may change other VCPUs of the guest; the view
+/// and
+/// the hart's registers are then what the call left of this one.
+fn answer_call(
+    guest: &mut Guest,
+    vcpu: VcpuNo,
+    view: &mut VcpuView,
+    regs: &mut Regs,
+    time: u64,
+) -> Progress
+    requires number { vcpu < length guest.old.vcpus }
     requires formed { IsWellFormed regs.old }
     ensures calls { (t : ℕ) (bytes : List ℕ) →
-        after_of guest.now vcpu view.now regs.new bytes (progress.Goes result)
-        ≡ lone.calls guest.now.plan vcpu t
-        (on_hart_of guest.now vcpu view.now regs.old bytes states.Started)
-        (view_of view.now regs.old states.Started) (next_pc regs.old.pc ecall_word) }
-    ensures others { regs.new ≡ record regs.old { x = regs.new.x; pc = regs.new.pc } }
+        after_of guest.new vcpu view.new regs.new bytes result
+        ≡ lone.calls guest.old.plan vcpu t
+        (on_hart_of guest.old vcpu view.old regs.old bytes states.Started)
+        (view_of view.old regs.old states.Started) (next_pc regs.old.pc ecall_word) }
+    ensures leaves { Leaves guest.old guest.new }
+    ensures view { Shows result guest.new vcpu view.new }
+    ensures time { regs.new.time ≡ regs.old.time }
+    ensures h { regs.new.h ≡ record regs.old.h { hvip = regs.new.h.hvip } }
+    ensures held { regs.new.held ≡ regs.old.held }
     ensures formed { IsWellFormed regs.new }
 {
-    regs.x[A0] = NOT_SUPPORTED;
-    regs.x[A1] = 0;
-    regs.pc = next_pc(regs.pc, ECALL);
-    HartState::Started
+    guest.set_view(vcpu, &shown_view(view, regs, HartState::Started));
+    let progress = call(guest, vcpu);
+    *view = guest.view(vcpu);
+    let lines = lines(guest, vcpu, view, time);
+    load(regs, view, lines);
+    progress
+}
+
+// The hart's registers become those of a VCPU, with these interrupt lines.
+fn load(regs: &mut Regs, view: &VcpuView, lines: Lines)
+    requires formed { IsWellFormed regs.old }
+    requires view { IsView view.now }
+    ensures regs { regs.new ≡ record regs.old {
+      x = view.now.x;
+      pc = view.now.pc;
+      user = view.now.user;
+      csrs = view.now.csrs;
+      h = regs.new.h;
+    } }
+    ensures h { regs.new.h ≡ record regs.old.h { hvip = regs.new.h.hvip } }
+    ensures formed { IsWellFormed regs.new }
+{
+    regs.x = view.x;
+    regs.pc = view.pc;
+    regs.user = view.user;
+    regs.csrs = view.csrs;
+    regs.h
+        .set_lines(view.csrs.ssip, lines.timer, lines.external);
 }
 
 // An access fault of the guest, at the instruction that made the access.

@@ -1,5 +1,6 @@
 //! A turn: lone steps of one VCPU of a guest on the hart.
-ghost use Rattle.std.specs.Prelude.{◌≡◌, ◌≢◌, ◌+◌, ◌*◌, ◌^◌, ◌<◌, ◌≤◌, length, [], Some, true, false, IsSome};
+ghost use Rattle.std.specs.Prelude.{◌≡◌, ◌≢◌, ◌+◌, ◌*◌, ◌^◌, ◌<◌, ◌≤◌, length, [], Some, true};
+ghost use Rattle.std.specs.Prelude.{false, IsSome};
 ghost use Rattle.std.specs.Prelude.{slice_get};
 ghost use Rattle.std.specs.List.{All};
 ghost use Rattle.xv_hart.specs.Hart.{regs_of, taken_by, trail_of};
@@ -19,14 +20,16 @@ ghost use Rattle.xv_host.specs.Join.{IsGoodFor};
 ghost use Rattle.xv_host.specs.OnHart.{core_of, end_of, regs_of_vcpu, shown_guest, view_of};
 ghost use Rattle.xv_host.specs.OnHart.{with_view, IsBetween, IsShown, IsTurned};
 ghost use Rattle.xv_lone.specs.declared.vcpu.HartState.TheVariants as states;
-ghost use Rattle.xv_host.specs.OnHart.{Leaves, MayRun, most_accesses};
-ghost use Rattle.xv_host.specs.declared.monitor.Progress.TheVariants as ways;
+ghost use Rattle.xv_firmware.specs.Calls.{Leaves};
+ghost use Rattle.xv_host.specs.OnHart.{MayRun, Shows, most_accesses};
+ghost use Rattle.xv_firmware.specs.declared.calls.Progress.TheVariants as ways;
 ghost use Rattle.xv_host.specs.Places.{guest_at};
 
 use crate::host::Host;
-use crate::monitor::{Progress, lines, lone_step};
+use crate::monitor::{lines, lone_step};
 use std::sync::ledger::Ledger;
 use xv_base::{GuestKey, VcpuNo};
+use xv_firmware::Progress;
 use xv_guest::{Guest, HartState, VcpuView};
 use xv_hart::{Machine, Regs};
 use xv_hcsr::HCsrs;
@@ -120,12 +123,12 @@ fn turn_of<L: Ledger>(
     ensures area { machine.new.area ≡ machine.old.area }
     ensures fit { IsFit machine.new }
 {
-    let view = ready_view(guest, vcpu, clock);
+    let mut view = ready_view(guest, vcpu, clock);
     machine.hart.clear_trail();
     machine
         .hart
         .set_regs(&first_regs(guest, key, vcpu, &view, clock));
-    let progress = run(guest, vcpu, &view, machine, clock, steps);
+    let progress = run(guest, vcpu, &mut view, machine, clock, steps);
     finish(guest, vcpu, &view, machine, progress);
     end_of(progress)
 }
@@ -192,7 +195,7 @@ fn first_regs(guest: &Guest, key: GuestKey, vcpu: VcpuNo, view: &VcpuView, clock
 }
 
 /// The VCPU that the hart shows, in a hart state.
-fn shown_view(view: &VcpuView, regs: &Regs, hart: HartState) -> VcpuView
+pub(crate) fn shown_view(view: &VcpuView, regs: &Regs, hart: HartState) -> VcpuView
     ensures { result ≡ view_of view.now regs.now hart }
 {
     VcpuView {
@@ -210,22 +213,23 @@ fn shown_view(view: &VcpuView, regs: &Regs, hart: HartState) -> VcpuView
 fn run<L: Ledger>(
     guest: &mut Guest,
     vcpu: VcpuNo,
-    view: &VcpuView,
+    view: &mut VcpuView,
     machine: &mut Machine,
     clock: u64,
     steps: &mut Steps<L>,
 ) -> Progress
-    requires may { MayRun guest.old vcpu view.now machine.old.mem }
-    requires ready { ready.may_run view.now.hart (ready.has_interrupt vcpu
-        (time_of guest.old clock) (lone_of guest.old []) view.now) ≡ true }
+    requires may { MayRun guest.old vcpu view.old machine.old.mem }
+    requires ready { ready.may_run view.old.hart (ready.has_interrupt vcpu
+        (time_of guest.old clock) (lone_of guest.old []) view.old) ≡ true }
     requires fit { IsFit machine.old }
     requires few { taken_by machine.old.hart < 2 ^ 62 }
-    requires begun { regs_of machine.old.hart ≡ regs_of_vcpu guest.old vcpu clock view.now }
+    requires begun { regs_of machine.old.hart ≡ regs_of_vcpu guest.old vcpu clock view.old }
     requires trail { trail_of machine.old.hart ≡ [] }
 
-    ensures turn { IsTurned guest.old vcpu view.now (time_of guest.old clock) machine.old.mem
+    ensures turn { IsTurned guest.old vcpu view.new (time_of guest.old clock) machine.old.mem
         guest.new (regs_of machine.new.hart) machine.new.mem (trail_of machine.new.hart) result }
-    ensures leaves { Leaves result guest.old guest.new }
+    ensures leaves { Leaves guest.old guest.new }
+    ensures view { Shows result guest.new vcpu view.new }
     ensures formed { IsWellFormed (regs_of machine.new.hart) }
     ensures root { All (λ r. root_of r.h ≡ guest.old.key) (trail_of machine.new.hart) }
     ensures taken { taken_by machine.new.hart

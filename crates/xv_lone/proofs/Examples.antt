@@ -14,6 +14,7 @@ use Rattle.xv_csr.specs.Table.{csr_read, csr_written, register_of}
 use Rattle.xv_csr.specs.Trap.{trap_csrs, handler, return_csrs, returns_to_user}
 use Rattle.xv_pte.specs.Entry.{kind_of}
 use Rattle.xv_pte.specs.Sv39.{path, verdict}
+use Rattle.xv_sbi.specs.Calls.{call_of}
 use Rattle.xv_step.specs.Step.{step}
 use Rattle.xv_lone.specs.declared.vcpu.VcpuView.{VcpuView}
 use Rattle.xv_lone.specs.declared.vcpu.HartState.{HartState}
@@ -292,5 +293,5 @@ unfolding region_of vcpu_at plan mixed mixed_shows mixed_traps led led_traps pat
     answered steps turn whole_turn iterate lone_step step word_at put put_word decode_of row_of rows
     form_of operation_at effect_of chosen_interrupt pending sip_of csr_read csr_written register_of
     trap_csrs handler return_csrs returns_to_user kept_stvec kept_sie kept_satp kept_sstatus
-    reset_csrs verdict
+    reset_csrs verdict call_of
 the_rows = refl

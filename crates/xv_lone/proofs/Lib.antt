@@ -1,2 +1,3 @@
 pub mod IterateLemmas
 mod Examples
+mod CallExamples

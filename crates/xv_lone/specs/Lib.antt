@@ -2,6 +2,7 @@ pub mod Memory
 pub mod Device
 pub mod Vcpu
 pub mod Machine
+pub mod Calls
 pub mod Step
 pub mod Ready
 pub mod Turn

@@ -2,7 +2,7 @@
 -- what becomes of its exceptions and the answer to what memory alone can't give (Privileged
 -- Architecture 20211203, sections 4.1 and 3.3; SBI 1.0, chapter 3). An answer is about the machine:
 -- it may change other VCPUs than the one that asked, halt the guest or reboot it.
-use Rattle.std.specs.Prelude.{ℕ, ◌-◌, ◌^◌, ◌==◌, Bool, true, false, ◌&&◌, nat_le, if◌then◌else◌}
+use Rattle.std.specs.Prelude.{ℕ, ◌==◌, Bool, ◌&&◌, nat_le, if◌then◌else◌}
 use Rattle.std.specs.Prelude.{Option, None, option_map, slice_get}
 use Rattle.xv_bus.specs.declared.access.Ending.{Ending}
 use Rattle.xv_bus.specs.declared.access.Outcome as bus
@@ -26,6 +26,8 @@ use Rattle.xv_lone.specs.declared.vcpu.VcpuView.{VcpuView}
 use Rattle.xv_lone.specs.declared.vcpu.HartState.{HartState}
 use Rattle.xv_lone.specs.declared.vcpu.HartState.TheVariants.{Started, Waiting, Stopped}
 use Rattle.xv_region.specs.Plan.{Plan}
+use Rattle.xv_lone.specs.Calls.{Reply, Returns, StopsCaller, HaltsGuest, RebootsGuest, a0, a1}
+use Rattle.xv_lone.specs.Calls.{call_in, replied}
 use Rattle.xv_lone.specs.Device.{DeviceState, external_line}
 use Rattle.xv_lone.specs.Memory.{Memory, Place, spot_at, load_place, put_place}
 use Rattle.xv_lone.specs.Machine.{Machine, access_in, after_access, with_vcpu, on_vcpu, halted}
@@ -150,29 +152,7 @@ module _ (plan : Plan) (h : ℕ) (v : VcpuView) (access : effects.Access) (next 
 
 -- ---- the answers
 
--- what SBI makes of a call
-pub data Reply : Type 0 where
-  -- error and value, and what became of the machine
-  Returns : (error value : ℕ) → Machine → Reply
-  StopsCaller : Reply
-  HaltsGuest : Ending → Reply
-  RebootsGuest : Reply
-
--- the error of a call that SBI doesn't have (SBI_ERR_NOT_SUPPORTED, -2)
-abbrev pub not_supported : ℕ
-not_supported = 2 ^ 64 - 2
-
--- no call is there yet
-abbrev pub replied : Machine → Reply
-replied m = Returns not_supported 0 m
-
--- the registers of error and value
-abbrev pub a0 : ℕ
-a0 = 10
-
-abbrev pub a1 : ℕ
-a1 = 11
-
+-- error and value are written, and the hart goes on
 abbrev pub with_reply : (next error value : ℕ) → VcpuView → VcpuView
 with_reply next error value v =
     record v { x = with_register a1 value (with_register a0 error v.x); pc = next }
@@ -198,7 +178,7 @@ module _ (plan : Plan) (h t : ℕ) (r : OnHart) (v : VcpuView) where
   by_reply next RebootsGuest = reboots plan r.machine
 
   abbrev pub calls : (next : ℕ) → After
-  calls next = by_reply next (replied r.machine)
+  calls next = by_reply next (replied plan h r.machine (call_in v.x))
 
   abbrev pub waits : (next : ℕ) → After
   waits next =

@@ -3,8 +3,9 @@
 //! engine.
 //!
 //! A VCPU's step is that of `xv_step`'s hart over the cells of the guest's memory; what that hart
-//! asks for is answered here at once, an access to a device by its automaton (`xv_bus`). An answer is
-//! about the whole machine. No SBI call is built, so each call from S answers -2.
+//! asks for is answered here at once, an access to a device by its automaton (`xv_bus`). An answer
+//! is
+//! about the whole machine, as a call to firmware may be about other VCPUs (`xv_sbi`).
 #![tactic(auto)]
 
 mod vcpu;

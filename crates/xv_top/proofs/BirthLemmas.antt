@@ -1,9 +1,7 @@
 -- The birth of a guest where no other lives.
 use Rattle.std.proofs.Common.{◌≡◌, ℕ, ◌-◌, ◌<◌, Bool, true, false, cond}
-use Rattle.std.proofs.Common.{ltb, eqb, List, [], ◌∷◌, length, set, replicate, Option, Some}
+use Rattle.std.proofs.Common.{ltb, List, [], ◌∷◌, length, set, replicate, Option, Some}
 use Rattle.std.proofs.Common.{None, Ok, Err, Result, refl, sym, ap, ◌∙◌, subst, arith}
-use Rattle.std.proofs.lemmas.Bool.{and_parts}
-use Rattle.std.proofs.lemmas.Bool.Decides.{nat_tests}
 use Rattle.std.proofs.lemmas.List.{get_or-set_same, length-map}
 use Rattle.xv_hart.specs.declared.machine.Machine.{Machine}
 use Rattle.xv_pool.specs.FrameList.{up_from}
@@ -22,11 +20,11 @@ use Rattle.xv_host.specs.declared.host.Admit.TheVariants.{Pool}
 use Rattle.xv_host.specs.Places.{Places, IsLeast, guest_at}
 use Rattle.xv_top.specs.declared.manager.Manager.{Manager}
 use Rattle.xv_top.specs.Answer.{says}
-use Rattle.xv_top.specs.Births.{admitted, created, is_built}
+use Rattle.xv_top.specs.Births.{admitted, created}
 use Rattle.xv_top.specs.declared.manager.Named.{Named}
 use Rattle.xv_top.specs.Manager.{live_at, named, world_of, HasGuests, IsAlone, IsSound}
 use Rattle.xv_top.specs.Texts.{frames_text}
-use Rattle.xv_top.specs.World.{LiveGuest, World, least_root}
+use Rattle.xv_top.specs.World.{LiveGuest, World, least_root, no_turns}
 use Rattle.xv_top.proofs.EmptyLemmas.{first_key, tested_empty}
 use Rattle.xv_top.proofs.ManagerLemmas.{no_guest_of, same_none}
 
@@ -100,9 +98,6 @@ module _ (m : Manager) (bytes : List ℕ) (plan : Plan) (hosted : IsHosted m.hos
       (sym (tested_empty m.host bytes hosted empty (need plan.regions)
       (reserved_ranges plan.regions)) ∙ had)
 
-pub one_vcpu : (plan : Plan) → is_built plan ≡ true → length plan.vcpus ≡ 1
-one_vcpu plan built = grind (arith, nat_tests, built)
-
 first_root : (m : Manager) → least_root (no_guest_of m) ≡ 0
 unfolding up_from
 first_root m = refl
@@ -120,7 +115,7 @@ module _ (m : Manager) (host : Host) (name : List ℕ) (plan : Plan) (key : ℕ)
   guest = hosts.admitted m.host.pool plan key m.clock
 
   abbrev pub next : Manager
-  next = record m { host = host; guest = Some (named name key) }
+  next = record m { host = host; guest = Some (named name key); last = no_turns }
 
   there : guest_at host.guests key ≡ Some guest
   there =
@@ -148,33 +143,37 @@ module _ (m : Manager) (host : Host) (name : List ℕ) (plan : Plan) (key : ℕ)
   pub birth_world : world_of next after ≡ (created (no_guest_of m) name plan).world
   birth_world =
       let with_guest : ℕ → lone.Machine → LiveGuest =
-      λ root machine. record { name = name; root = root; plan = plan; machine = machine } in
+      λ root machine. record {
+        name = name;
+        root = root;
+        plan = plan;
+        machine = machine;
+        last = no_turns;
+      } in
       let with_guests : List LiveGuest → World =
       λ gs. record (no_guest_of m) { guests = gs } in
       ap (λ (n : ℕ). record (world_of next after) { pool = n }) count_is
       ∙ (ap (λ a. record (world_of next after) { pool = m.host.pool.count; area = a }) area
-      ∙ (ap (λ (o : Option Guest). with_guests (live_at name o after)) there
+      ∙ (ap (λ (o : Option Guest). with_guests (live_at name no_turns o after)) there
       ∙ (ap (λ (l : lone.Machine). with_guests (with_guest (held_of guest).root l ∷ [])) born
       ∙ ap (λ (r : ℕ). with_guests (with_guest r (lone.new_machine plan m.clock) ∷ []))
       (root_is ∙ sym (first_root m)))))
 
-  pub birth_alone : is_built plan ≡ true → IsAlone host.guests key
-  birth_alone built = record {
+  pub birth_alone : IsAlone host.guests key
+  birth_alone = record {
     inside = least.inside;
     guest = guest;
     only = guests ∙ ap (λ (p : Places). set p key (Some guest)) empty;
-    planned = one_vcpu plan built;
     views = length-map plan.vcpus _;
   }
 
   pub birth_sound : (machine old_machine : Machine) → machine.mem ≡ after
-      → machine.area ≡ old_machine.area → is_built plan ≡ true → IsSound m old_machine
-      → IsSound next machine
-  birth_sound machine old_machine same same_area built sound = record {
+      → machine.area ≡ old_machine.area → IsSound m old_machine → IsSound next machine
+  birth_sound machine old_machine same same_area sound = record {
     hosted = subst (IsHosted host) (sym same) new;
     area = same_area ∙ (sound.area ∙ sym area);
     turns = sound.turns;
-    guests = birth_alone built;
+    guests = birth_alone;
   }
 
 -- no guest has a name, so none lives

@@ -208,7 +208,8 @@ module _ (mib : ℕ) (given : Option FileMap) (text : List ℕ) (ls all : List L
     stands = subst (λ (x : World). Stands machine.mem (map seen_of_live x.guests))
         (world ∙ ap (λ (x : World). world_after files x done) start)
         (law m.host machine.mem (map seen_of_live (world_of m machine.mem).guests) sound.hosted
-        (shows_world m.host.guests machine.mem sound.hosted.parted.root m.guest sound.guests));
+        (shows_world m.host.guests machine.mem sound.hosted.parted.root m.guest m.last
+        sound.guests));
     journals = replayed mib files done;
     stepped = omega (arith, work, ap (λ x. work_after files x done) start);
   }

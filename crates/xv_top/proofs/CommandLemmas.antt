@@ -8,7 +8,8 @@ use Rattle.xv_script.specs.declared.command.Command.TheVariants.{Regs, Mem, Dige
 use Rattle.xv_script.specs.declared.command.Command.TheVariants.{Ports, Clock, Tick}
 use Rattle.xv_top.specs.Births.{create_answer, flat_answer}
 use Rattle.xv_top.specs.Commands.{answer, kick_guest, regs_guest, list_answer, ports_answer}
-use Rattle.xv_top.specs.Commands.{clock_answer, input_guest, tick_answer, run_answer, unbuilt}
+use Rattle.xv_top.specs.Commands.{clock_answer, dump_guest, input_guest, tick_answer, run_answer}
+use Rattle.xv_top.specs.Commands.{unbuilt}
 use Rattle.xv_top.specs.Contents.{load_guest, poke_guest, mem_guest, digest_guest, audit_guest}
 use Rattle.xv_top.specs.World.{World, guest_named}
 
@@ -67,6 +68,11 @@ module _ (files : FileMap) (w : World) (c : Command) where
   unfolding answer
   input_is name dev bytes is = ap (answer files w) is
 
+  pub dump_is : (name dev : List ℕ) → c ≡ command.Dump name dev
+      → answer files w c ≡ dump_guest w name dev (guest_named name w)
+  unfolding answer
+  dump_is name dev is = ap (answer files w) is
+
   pub ports_is : c ≡ Ports → answer files w c ≡ ports_answer w
   unfolding answer
   ports_is is = ap (answer files w) is
@@ -96,6 +102,7 @@ pub unbuilt_is : (files : FileMap) (w : World) (c : Command)
     → ((name : List ℕ) → c ≡ command.Audit name → ⊥)
     → (c ≡ command.List → ⊥)
     → ((name : List ℕ) (dev : List ℕ) (bytes : List ℕ) → c ≡ command.Input name dev bytes → ⊥)
+    → ((name : List ℕ) (dev : List ℕ) → c ≡ command.Dump name dev → ⊥)
     → (c ≡ command.Ports → ⊥)
     → ((value : ℕ) → c ≡ command.Clock value → ⊥)
     → ((value : ℕ) → c ≡ command.Tick value → ⊥)
@@ -103,65 +110,70 @@ pub unbuilt_is : (files : FileMap) (w : World) (c : Command)
     → answer files w c ≡ unbuilt w
 unfolding answer
 unbuilt_is files w (command.Create name file) not_create not_flat not_load not_poke not_kick
-    not_regs not_mem not_digest not_audit not_list not_input not_ports not_clock not_tick not_run =
+    not_regs not_mem not_digest not_audit not_list not_input not_dump not_ports not_clock not_tick
+    not_run =
     absurd (not_create name file refl)
 unbuilt_is files w (command.Flat name pages) not_create not_flat not_load not_poke not_kick not_regs
-    not_mem not_digest not_audit not_list not_input not_ports not_clock not_tick not_run =
+    not_mem not_digest not_audit not_list not_input not_dump not_ports not_clock not_tick not_run =
     absurd (not_flat name pages refl)
 unbuilt_is files w (command.Load name gpa file) not_create not_flat not_load not_poke not_kick
-    not_regs not_mem not_digest not_audit not_list not_input not_ports not_clock not_tick not_run =
+    not_regs not_mem not_digest not_audit not_list not_input not_dump not_ports not_clock not_tick
+    not_run =
     absurd (not_load name gpa file refl)
 unbuilt_is files w (command.Poke name gpa bytes) not_create not_flat not_load not_poke not_kick
-    not_regs not_mem not_digest not_audit not_list not_input not_ports not_clock not_tick not_run =
+    not_regs not_mem not_digest not_audit not_list not_input not_dump not_ports not_clock not_tick
+    not_run =
     absurd (not_poke name gpa bytes refl)
 unbuilt_is files w (command.Kick name) not_create not_flat not_load not_poke not_kick not_regs
-    not_mem not_digest not_audit not_list not_input not_ports not_clock not_tick not_run =
+    not_mem not_digest not_audit not_list not_input not_dump not_ports not_clock not_tick not_run =
     absurd (not_kick name refl)
 unbuilt_is files w (command.Pause name) not_create not_flat not_load not_poke not_kick not_regs
-    not_mem not_digest not_audit not_list not_input not_ports not_clock not_tick not_run =
+    not_mem not_digest not_audit not_list not_input not_dump not_ports not_clock not_tick not_run =
     refl
 unbuilt_is files w (command.Resume name) not_create not_flat not_load not_poke not_kick not_regs
-    not_mem not_digest not_audit not_list not_input not_ports not_clock not_tick not_run =
+    not_mem not_digest not_audit not_list not_input not_dump not_ports not_clock not_tick not_run =
     refl
 unbuilt_is files w (command.Reset name) not_create not_flat not_load not_poke not_kick not_regs
-    not_mem not_digest not_audit not_list not_input not_ports not_clock not_tick not_run =
+    not_mem not_digest not_audit not_list not_input not_dump not_ports not_clock not_tick not_run =
     refl
 unbuilt_is files w (command.Halt name) not_create not_flat not_load not_poke not_kick not_regs
-    not_mem not_digest not_audit not_list not_input not_ports not_clock not_tick not_run =
+    not_mem not_digest not_audit not_list not_input not_dump not_ports not_clock not_tick not_run =
     refl
 unbuilt_is files w (command.Destroy name) not_create not_flat not_load not_poke not_kick not_regs
-    not_mem not_digest not_audit not_list not_input not_ports not_clock not_tick not_run =
+    not_mem not_digest not_audit not_list not_input not_dump not_ports not_clock not_tick not_run =
     refl
 unbuilt_is files w (command.Regs name vcpu) not_create not_flat not_load not_poke not_kick not_regs
-    not_mem not_digest not_audit not_list not_input not_ports not_clock not_tick not_run =
+    not_mem not_digest not_audit not_list not_input not_dump not_ports not_clock not_tick not_run =
     absurd (not_regs name vcpu refl)
 unbuilt_is files w (command.Mem name gpa len) not_create not_flat not_load not_poke not_kick
-    not_regs not_mem not_digest not_audit not_list not_input not_ports not_clock not_tick not_run =
+    not_regs not_mem not_digest not_audit not_list not_input not_dump not_ports not_clock not_tick
+    not_run =
     absurd (not_mem name gpa len refl)
 unbuilt_is files w (command.Digest name) not_create not_flat not_load not_poke not_kick not_regs
-    not_mem not_digest not_audit not_list not_input not_ports not_clock not_tick not_run =
+    not_mem not_digest not_audit not_list not_input not_dump not_ports not_clock not_tick not_run =
     absurd (not_digest name refl)
 unbuilt_is files w (command.Audit name) not_create not_flat not_load not_poke not_kick not_regs
-    not_mem not_digest not_audit not_list not_input not_ports not_clock not_tick not_run =
+    not_mem not_digest not_audit not_list not_input not_dump not_ports not_clock not_tick not_run =
     absurd (not_audit name refl)
 unbuilt_is files w command.List not_create not_flat not_load not_poke not_kick not_regs not_mem
-    not_digest not_audit not_list not_input not_ports not_clock not_tick not_run =
+    not_digest not_audit not_list not_input not_dump not_ports not_clock not_tick not_run =
     absurd (not_list refl)
 unbuilt_is files w (command.Input name port bytes) not_create not_flat not_load not_poke not_kick
-    not_regs not_mem not_digest not_audit not_list not_input not_ports not_clock not_tick not_run =
+    not_regs not_mem not_digest not_audit not_list not_input not_dump not_ports not_clock not_tick
+    not_run =
     absurd (not_input name port bytes refl)
 unbuilt_is files w (command.Dump name port) not_create not_flat not_load not_poke not_kick not_regs
-    not_mem not_digest not_audit not_list not_input not_ports not_clock not_tick not_run =
-    refl
+    not_mem not_digest not_audit not_list not_input not_dump not_ports not_clock not_tick not_run =
+    absurd (not_dump name port refl)
 unbuilt_is files w command.Ports not_create not_flat not_load not_poke not_kick not_regs not_mem
-    not_digest not_audit not_list not_input not_ports not_clock not_tick not_run =
+    not_digest not_audit not_list not_input not_dump not_ports not_clock not_tick not_run =
     absurd (not_ports refl)
 unbuilt_is files w (command.Clock value) not_create not_flat not_load not_poke not_kick not_regs
-    not_mem not_digest not_audit not_list not_input not_ports not_clock not_tick not_run =
+    not_mem not_digest not_audit not_list not_input not_dump not_ports not_clock not_tick not_run =
     absurd (not_clock value refl)
 unbuilt_is files w (command.Tick value) not_create not_flat not_load not_poke not_kick not_regs
-    not_mem not_digest not_audit not_list not_input not_ports not_clock not_tick not_run =
+    not_mem not_digest not_audit not_list not_input not_dump not_ports not_clock not_tick not_run =
     absurd (not_tick value refl)
 unbuilt_is files w (command.Run turns) not_create not_flat not_load not_poke not_kick not_regs
-    not_mem not_digest not_audit not_list not_input not_ports not_clock not_tick not_run =
+    not_mem not_digest not_audit not_list not_input not_dump not_ports not_clock not_tick not_run =
     absurd (not_run turns refl)

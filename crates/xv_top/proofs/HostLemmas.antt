@@ -75,14 +75,13 @@ module _ (places : Places) (key : ℕ) (alone : IsAlone places key) where
   ]
 
   -- another guest at its place
-  pub alone_next : (g : Guest) → length g.plan.vcpus ≡ 1 → length g.vcpus ≡ length g.plan.vcpus
+  pub alone_next : (g : Guest) → length g.vcpus ≡ length g.plan.vcpus
       → IsAlone (set places key (Some g)) key
-  alone_next g planned views = record {
+  alone_next g views = record {
     inside = alone.inside;
     guest = g;
     only = ap (λ (p : Places). set p key (Some g)) alone.only
         ∙ set-set no_guests key (Some alone.guest) (Some g);
-    planned = planned;
     views = views;
   }
 
@@ -94,22 +93,23 @@ alone_named o places name key guests there =
 -- what is found under a name
 pub live_some : (m : Manager) (name : List ℕ) (o : Option ℕ) (bytes : List ℕ)
     → HasGuests m.guest m.host.guests → IfSome o (λ key. m.guest ≡ Some (named name key))
-    → is_some o ≡ true → is_some (live_of name o m.host.guests bytes) ≡ true
+    → is_some o ≡ true → is_some (live_of name m.last o m.host.guests bytes) ≡ true
 live_some m name None bytes guests there is = cc
 live_some m name (Some key) bytes guests there is =
-    ap (λ (g : Option Guest). is_some (option_map (λ x. live_guest name x bytes) g))
+    ap (λ (g : Option Guest). is_some (option_map (λ x. live_guest name m.last x bytes) g))
     (guest_there m.host.guests key (alone_named m.guest m.host.guests name key guests there))
 
-pub live_none : (name : List ℕ) (o : Option ℕ) (places : Places) (bytes : List ℕ)
-    → is_some o ≡ false → is_some (live_of name o places bytes) ≡ false
-live_none name None places bytes is = refl
-live_none name (Some key) places bytes is = cc
+pub live_none : (name last : List ℕ) (o : Option ℕ) (places : Places) (bytes : List ℕ)
+    → is_some o ≡ false → is_some (live_of name last o places bytes) ≡ false
+live_none name last None places bytes is = refl
+live_none name last (Some key) places bytes is = cc
 
-pub some_guests : (o : Option Named) (places : Places) (bytes : List ℕ) → HasGuests o places
-    → is_some o ≡ true → ltb 0 (length (guests_of o places bytes)) ≡ true
-some_guests None places bytes guests is = cc
-some_guests (Some one) places bytes alone is =
-    ap (λ (g : Option Guest). ltb 0 (length (live_at one.name g bytes)))
+pub some_guests : (o : Option Named) (last : List ℕ) (places : Places) (bytes : List ℕ)
+    → HasGuests o places → is_some o ≡ true
+    → ltb 0 (length (guests_of o last places bytes)) ≡ true
+some_guests None last places bytes guests is = cc
+some_guests (Some one) last places bytes alone is =
+    ap (λ (g : Option Guest). ltb 0 (length (live_at one.name last g bytes)))
     (guest_there places one.key alone)
 
 -- ---- a change of the guest of a name
@@ -125,7 +125,7 @@ module _ (m : Manager) (host : Host) (name : List ℕ) (key : ℕ)
   after_places = set m.host.guests key (Some after)
 
   abbrev before_live : LiveGuest
-  before_live = live_guest name g bytes
+  before_live = live_guest name m.last g bytes
 
   abbrev after_live : LiveGuest
   after_live = record before_live { machine = after_change g.plan change (lone_of g bytes) }
@@ -139,15 +139,15 @@ module _ (m : Manager) (host : Host) (name : List ℕ) (key : ℕ)
     sixteen,
   )
 
-  listed_before : guests_of m.guest m.host.guests bytes ≡ before_live ∷ []
+  listed_before : guests_of m.guest m.last m.host.guests bytes ≡ before_live ∷ []
   listed_before =
-      ap (λ (o : Option Named). guests_of o m.host.guests bytes) there
-      ∙ ap (λ (o : Option Guest). live_at name o bytes) at
+      ap (λ (o : Option Named). guests_of o m.last m.host.guests bytes) there
+      ∙ ap (λ (o : Option Guest). live_at name m.last o bytes) at
 
-  listed_after : guests_of m.guest after_places now ≡ after_live ∷ []
+  listed_after : guests_of m.guest m.last after_places now ≡ after_live ∷ []
   listed_after =
-      ap (λ (o : Option Named). guests_of o after_places now) there
-      ∙ (ap (λ (o : Option Guest). live_at name o now)
+      ap (λ (o : Option Named). guests_of o m.last after_places now) there
+      ∙ (ap (λ (o : Option Guest). live_at name m.last o now)
       (get_or-set_same m.host.guests key (Some after) None inside)
       ∙ ap (λ (l : lone.Machine). record before_live { machine = l } ∷ []) become.machine)
 
@@ -155,8 +155,8 @@ module _ (m : Manager) (host : Host) (name : List ℕ) (key : ℕ)
   changed_list = ap (λ (l : LiveGuest). l ∷ [])
       (cond-true (bytes_eq name name) after_live before_live ((bytes_eq-Decides name name).1 refl))
 
-  guests_change : guests_of m.guest after_places now
-      ≡ map (changed_guest name change) (guests_of m.guest m.host.guests bytes)
+  guests_change : guests_of m.guest m.last after_places now
+      ≡ map (changed_guest name change) (guests_of m.guest m.last m.host.guests bytes)
   guests_change =
       listed_after
       ∙ (sym changed_list ∙ sym (ap (map (changed_guest name change)) listed_before))
@@ -171,9 +171,8 @@ module _ (m : Manager) (host : Host) (name : List ℕ) (key : ℕ)
   alone_after : IsAlone after_places key
   alone_after =
       let mine : alone.guest ≡ g = let is = guest_there m.host.guests key alone in cc in
-      let one = subst (λ (x : Guest). length x.plan.vcpus ≡ 1) mine alone.planned in
       let full = subst (λ (x : Guest). length x.vcpus ≡ length x.plan.vcpus) mine alone.views in
-      alone_next m.host.guests key alone after one
+      alone_next m.host.guests key alone after
       (change_full g.plan change (lone_of g bytes) full)
 
   -- the guest of the name lives on, and no other
@@ -267,9 +266,11 @@ module _ (places : Places) (bytes : List ℕ)
       nothing : (i : ℕ) (s : Seen) → slice_get [] i ≡ Some s → ⊥
       nothing i s live = cc
 
-  pub shows_world : (o : Option Named) → HasGuests o places
-      → Shows bytes places (map seen_of_live (guests_of o places bytes))
-  shows_world None empty = shows_none (λ k. ap (λ (p : Places). guest_at p k) empty ∙ no_guest k)
-  shows_world (Some one) alone =
-      subst (λ (o : Option Guest). Shows bytes places (map seen_of_live (live_at one.name o bytes)))
+  pub shows_world : (o : Option Named) (last : List ℕ) → HasGuests o places
+      → Shows bytes places (map seen_of_live (guests_of o last places bytes))
+  shows_world None last empty =
+      shows_none (λ k. ap (λ (p : Places). guest_at p k) empty ∙ no_guest k)
+  shows_world (Some one) last alone =
+      subst (λ (o : Option Guest). Shows bytes places
+      (map seen_of_live (live_at one.name last o bytes)))
       (sym (guest_there places one.key alone)) (shows_one one.key alone)

@@ -1,6 +1,7 @@
 -- Each live guest's machine is the replay of its own journal.
 use Rattle.std.proofs.Common.{◌≡◌, ℕ, zero, suc, Bool, true, false, cond, ltb, List, [], ◌∷◌, ◌++◌}
-use Rattle.std.proofs.Common.{map, length, Option, Some, None, is_some, slice_get, subst, refl, sym}
+use Rattle.std.proofs.Common.{◌+◌, map, set, length, Option, Some, None, is_some, slice_get, subst}
+use Rattle.std.proofs.Common.{refl, sym}
 use Rattle.std.proofs.Common.{ap, ◌∙◌, codes, arith, sum_by, Result, Ok, Err}
 use Rattle.std.specs.List.{concat, flat_map}
 use Rattle.std.specs.Str.{bytes_eq}
@@ -21,20 +22,22 @@ use Rattle.xv_gstage.specs.Audit.{mapped_pages}
 use Rattle.xv_lone.specs.Memory.{peeked, spot_at}
 use Rattle.xv_lone.specs.Machine.{Machine, new_machine}
 use Rattle.xv_lone.specs.Ready.{is_reset}
-use Rattle.xv_lone.specs.Journal.{Entry, Born, Changed, Change, Load, Kick, Input, after_change}
+use Rattle.xv_lone.specs.Journal.{Entry, Born, Changed, Change, Load, Kick, Input, Dump}
+use Rattle.xv_lone.specs.Journal.{after_change}
 use Rattle.xv_lone.specs.Journal.{after_entry, extended, replay, replay_from}
 use Rattle.xv_script.specs.declared.command.Command.{Command}
 use Rattle.xv_script.specs.declared.command.Command.TheVariants as command
 use Rattle.xv_script.specs.declared.command.Line.{Line}
 use Rattle.xv_top.specs.World.{LiveGuest, World, GuestEntry, RunSoFar, first_world, changed_guest}
-use Rattle.xv_top.specs.World.{change_entry, guest_turn, one_turn, pick, run_from, run_of}
+use Rattle.xv_top.specs.World.{Candidate, change_entry, noted, no_turns, one_turn, pick, run_from}
+use Rattle.xv_top.specs.World.{run_of, turn_at}
 use Rattle.xv_top.specs.World.{guest_named, free, least_root}
 use Rattle.xv_top.specs.Answer.{Answer, refused, says, where_there, where_reset, with_file}
-use Rattle.xv_top.specs.Births.{admitted, where_alone, is_built, plan_answer, tree_answer}
+use Rattle.xv_top.specs.Births.{admitted, where_alone, plan_answer, tree_answer}
 use Rattle.xv_top.specs.Births.{create_answer}
 use Rattle.xv_top.specs.Contents.{put_into, load_bytes, load_guest, mem_of}
 use Rattle.xv_top.specs.Commands.{answer, clock_answer, tick_answer, regs_of_vcpu, run_answer}
-use Rattle.xv_top.specs.Commands.{by_port, input_at, room_at, unbuilt}
+use Rattle.xv_top.specs.Commands.{by_port, dump_at, input_at, room_at, unbuilt}
 use Rattle.xv_top.specs.Files.{file_of, most_tree, most_image}
 use Rattle.xv_top.specs.Texts.{frames_text, regs_text, tree_text, plan_text, mem_text}
 use Rattle.xv_top.specs.Texts.{digest_text, audit_text, clock_text}
@@ -103,7 +106,13 @@ all_replayed name change es (g ∷ gs) h = (
 -- a guest that is born where no other lives
 born_replayed : (name : List ℕ) (root : ℕ) (plan : Plan) (clock : ℕ) (es : List GuestEntry)
     → AreReplayed (es ++ an_entry name (Born clock) ∷ [])
-    (record { name = name; root = root; plan = plan; machine = new_machine plan clock } ∷ [])
+    (record {
+      name = name;
+      root = root;
+      plan = plan;
+      machine = new_machine plan clock;
+      last = no_turns;
+    } ∷ [])
 unfolding replay
 born_replayed name root plan clock es = (
   ap (replay_from plan None) (journal-push name es (an_entry name (Born clock))
@@ -111,17 +120,42 @@ born_replayed name root plan clock es = (
   tt,
 )
 
+-- the number of a turn is no part of it
+one_noted : (c : Candidate) (turn : ℕ) (es : List GuestEntry) (g : LiveGuest) (b : Bool)
+    → bytes_eq g.name c.guest.name ≡ b → replay g.plan (journal_of g.name es) ≡ Some g.machine
+    → replay (noted c turn g).plan (journal_of (noted c turn g).name es)
+    ≡ Some (noted c turn g).machine
+one_noted c turn es g true same now =
+    let next : LiveGuest = record g { last = set g.last c.vcpu turn } in
+    subst (λ (h : LiveGuest). replay h.plan (journal_of h.name es) ≡ Some h.machine)
+    (sym (cond-true (bytes_eq g.name c.guest.name) next g same)) now
+one_noted c turn es g false other now =
+    let next : LiveGuest = record g { last = set g.last c.vcpu turn } in
+    subst (λ (h : LiveGuest). replay h.plan (journal_of h.name es) ≡ Some h.machine)
+    (sym (cond-false (bytes_eq g.name c.guest.name) next g other)) now
+
+noted_replayed : (c : Candidate) (turn : ℕ) (es : List GuestEntry) (gs : List LiveGuest)
+    → AreReplayed es gs → AreReplayed es (map (noted c turn) gs)
+noted_replayed c turn es [] h = tt
+noted_replayed c turn es (g ∷ gs) h =
+    (one_noted c turn es g (bytes_eq g.name c.guest.name) refl h.0, noted_replayed c turn es gs h.1)
+
 -- a run of turns keeps it
 abbrev RunReplayed : List GuestEntry → RunSoFar → Type 0
 RunReplayed es r = AreReplayed (es ++ r.entries) r.world.guests
 
-one_turn_replayed : (es : List GuestEntry) (r : RunSoFar) (o : Option LiveGuest) → RunReplayed es r
+one_turn_replayed : (es : List GuestEntry) (r : RunSoFar) (o : Option Candidate) → RunReplayed es r
     → RunReplayed es (one_turn r o)
 one_turn_replayed es r None h = h
-one_turn_replayed es r (Some g) h =
-    subst (λ all. AreReplayed all (map (changed_guest g.name (guest_turn r.world)) r.world.guests))
-    (append_assoc es r.entries (change_entry g.name (guest_turn r.world) ∷ []))
-    (all_replayed g.name (guest_turn r.world) (es ++ r.entries) r.world.guests h)
+one_turn_replayed es r (Some c) h =
+    let name = c.guest.name in
+    let change = turn_at r.world c.vcpu in
+    subst (λ all. AreReplayed all
+    (map (noted c (r.world.turns + 1)) (map (changed_guest name change) r.world.guests)))
+    (append_assoc es r.entries (change_entry name change ∷ []))
+    (noted_replayed c (r.world.turns + 1) (es ++ r.entries ++ change_entry name change ∷ [])
+    (map (changed_guest name change) r.world.guests)
+    (all_replayed name change (es ++ r.entries) r.world.guests h))
 
 run_from_replayed : (es : List GuestEntry) (turns : ℕ) (r : RunSoFar) → RunReplayed es r
     → RunReplayed es (run_from turns r)
@@ -170,6 +204,7 @@ module _ (es : List GuestEntry) (w : World) (h : AreReplayed es w.guests) where
             root = least_root w;
             plan = plan;
             machine = new_machine plan w.clock;
+            last = no_turns;
           } ∷ [])
       made [] alone = born_replayed name (least_root w) plan w.clock es
       made (g ∷ gs) alone = absurd (omega (arith, ltb-false 0 (suc (length gs)) alone))
@@ -195,9 +230,7 @@ module _ (es : List GuestEntry) (w : World) (h : AreReplayed es w.guests) where
       → AnswerReplayed es (plan_answer w name r)
   plan_replayed name (Err fault) alone = says_replayed (plan_text fault)
   plan_replayed name (Ok plan) alone =
-      cond_both (is_built plan) _ _ (AnswerReplayed es)
-      (λ _. admitted_replayed name plan alone)
-      (λ _. same_replayed (unbuilt w) refl refl)
+      admitted_replayed name plan alone
 
   tree_replayed : (name : List ℕ) (r : Result (List Node) fdt.Fault)
       → ltb 0 (length w.guests) ≡ false → AnswerReplayed es (tree_answer w name r)
@@ -260,6 +293,10 @@ module _ (es : List GuestEntry) (w : World) (h : AreReplayed es w.guests) where
       (λ _. says_replayed (full_text (room_at g region)))
       (λ _. all_replayed name (Input region bytes) es w.guests h)
 
+  dump_replayed : (name dev : List ℕ) (g : LiveGuest) (region : ℕ)
+      → AnswerReplayed es (dump_at w name dev g region)
+  dump_replayed name dev g region = all_replayed name (Dump region) es w.guests h
+
   clock_replayed : (value : ℕ) → AnswerReplayed es (clock_answer w value)
   clock_replayed value =
       cond_both (ltb value w.clock) _ _ (AnswerReplayed es)
@@ -303,7 +340,9 @@ module _ (es : List GuestEntry) (w : World) (h : AreReplayed es w.guests) where
   answer_replayed files (command.Input name dev bytes) =
       there_replayed _ (guest_named name w) (λ g. port_replayed (input_at w name dev bytes g)
       (uart_named dev g.plan) (input_replayed name dev bytes g))
-  answer_replayed files (command.Dump name port) = same_replayed (unbuilt w) refl refl
+  answer_replayed files (command.Dump name dev) =
+      there_replayed _ (guest_named name w) (λ g. port_replayed (dump_at w name dev g)
+      (uart_named dev g.plan) (dump_replayed name dev g))
   answer_replayed files command.Ports = says_replayed (ports_text (flat_map ports_of w.guests))
   answer_replayed files (command.Clock value) = clock_replayed value
   answer_replayed files (command.Tick value) = guests_replayed (tick_answer w value) refl refl

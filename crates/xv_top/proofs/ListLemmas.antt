@@ -46,7 +46,7 @@ more_lines name rs i r b within at is =
 
 module _ (m : Manager) (bytes : List ℕ) where
   abbrev listed : Option Named → List LiveGuest
-  listed o = guests_of o m.host.guests bytes
+  listed o = guests_of o m.last m.host.guests bytes
 
   pub guests_none : m.guest ≡ None → guests_text (world_of m bytes).guests ≡ guests_head 0
   guests_none none =
@@ -60,8 +60,8 @@ module _ (m : Manager) (bytes : List ℕ) where
 
   module _ (one : Named) (g : Guest) (is : m.guest ≡ Some one)
       (at : guest_at m.host.guests one.key ≡ Some g) where
-    only : (world_of m bytes).guests ≡ live_guest one.name g bytes ∷ []
-    only = ap listed is ∙ ap (λ (o : Option Guest). live_at one.name o bytes) at
+    only : (world_of m bytes).guests ≡ live_guest one.name m.last g bytes ∷ []
+    only = ap listed is ∙ ap (λ (o : Option Guest). live_at one.name m.last o bytes) at
 
     pub guests_one : guests_text (world_of m bytes).guests
         ≡ guests_head 1 ++ guest_line one.name g.state (length g.plan.vcpus)

@@ -17,8 +17,7 @@ use Rattle.xv_top.specs.declared.manager.Named.{Named}
 use Rattle.xv_top.specs.Answer.{Answer, says, changes}
 use Rattle.xv_top.specs.Commands.{is_fetching, is_loadable, may_want_memory}
 use Rattle.xv_top.specs.Manager.{world_of, guests_of, may_stop, Gives}
-use Rattle.xv_top.specs.World.{LiveGuest, World, RunSoFar, with_change, guest_named}
-use Rattle.xv_top.specs.World.{one_turn}
+use Rattle.xv_top.specs.World.{Candidate, World, RunSoFar, with_change, guest_named, one_turn}
 
 pub none_some : {A : Type 0} {x : A} (o : Option A) → o ≡ Some x → o ≡ None → ⊥
 none_some None there none = cc
@@ -126,7 +125,10 @@ no_guest_of m = record {
 pub same_none : (m : Manager) (bytes : List ℕ) → m.guest ≡ None
     → world_of m bytes ≡ no_guest_of m
 same_none m bytes none =
-    ap (λ (o : Option Named). record (no_guest_of m) { guests = guests_of o m.host.guests bytes })
+    ap (λ (o : Option Named). record (no_guest_of m) {
+      guests = guests_of o m.last m.host.guests
+          bytes;
+    })
     none
 
 -- ---- lines that may stop
@@ -194,7 +196,7 @@ nonempty [] x h = cc
 nonempty (y ∷ ys) x h = cc
 
 -- a turn of a guest enters something into a journal
-pub busy_kept : (r : RunSoFar) (o : Option LiveGuest) (g : LiveGuest) (same : Type 0) → o ≡ Some g
-    → (one_turn r o).entries ≡ [] → (r.entries ≡ []) × same
-busy_kept r None g same some h = cc
-busy_kept r (Some other) g same some h = absurd (nonempty r.entries _ h)
+pub busy_kept : (r : RunSoFar) (o : Option Candidate) (c : Candidate) (same : Type 0)
+    → o ≡ Some c → (one_turn r o).entries ≡ [] → (r.entries ≡ []) × same
+busy_kept r None c same some h = cc
+busy_kept r (Some other) c same some h = absurd (nonempty r.entries _ h)

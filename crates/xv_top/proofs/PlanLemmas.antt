@@ -1,13 +1,14 @@
 -- The plans of flat guests and of trees keep the rules over the reserved area of the host.
 use Rattle.std.proofs.Common.{◌≡◌, ℕ, zero, suc, ◌+◌, ◌*◌, ◌%◌, ◌^◌, ◌≤◌, Bool, true, false}
-use Rattle.std.proofs.Common.{eqb, leb, ltb, IsTrue, List, [], ◌∷◌, take, Option, Some, None}
+use Rattle.std.proofs.Common.{eqb, leb, ltb, IsTrue, List, [], ◌∷◌, ◌++◌, length, take, slice_get}
+use Rattle.std.proofs.Common.{Option, Some, None}
+use Rattle.std.proofs.lemmas.List.{length-append}
 use Rattle.std.proofs.Common.{Result}
 use Rattle.std.proofs.Common.{Ok, Err, refl}
 use Rattle.std.proofs.Common.{sym, ap, ◌∙◌, arith, codes, subst, position}
 use Rattle.std.proofs.lemmas.Bool.Decides.{nat_tests}
 use Rattle.std.specs.List.{All}
 use Rattle.xv_csr.specs.Fields.{IsInstructionAddress}
-use Rattle.xv_top.specs.Births.{is_built}
 use Rattle.xv_base.specs.declared.keys.Span.{Span}
 use Rattle.xv_fdt.specs.Fault.{◌>>=◌}
 use Rattle.xv_fdt.specs.Tree.{Entry}
@@ -22,11 +23,12 @@ use Rattle.xv_region.specs.Rules.{are_sound, first_fault, fault_from, fault_of, 
 use Rattle.xv_region.specs.Rules.{is_good_alias, is_good_host, or_later, overlap_or, shares}
 use Rattle.xv_tree.specs.declared.fault.PlanFault.{PlanFault}
 use Rattle.xv_tree.specs.declared.fault.PlanKind.TheVariants.{NoAspace, NoVcpus}
-use Rattle.xv_tree.specs.Children.{children, root_child}
-use Rattle.xv_tree.specs.Fault.{in_turn}
+use Rattle.xv_region.specs.declared.plan.VcpuPlan.{VcpuPlan}
+use Rattle.xv_tree.specs.Children.{Numbered, children, root_child}
+use Rattle.xv_tree.specs.Fault.{fault_at, in_turn}
 use Rattle.xv_tree.specs.Plan.{judged, number_needed, plan, regions_of}
 use Rattle.xv_tree.specs.Regions.{Kept, nothing_kept, with_node}
-use Rattle.xv_tree.specs.Vcpus.{vcpus_of}
+use Rattle.xv_tree.specs.Vcpus.{counted, vcpu_of, vcpus_of, with_vcpu}
 
 pub flat_sound : (pages : ℕ) → 1 ≤ pages → pages ≤ 131072 → IsTrue (are_sound (flat pages).regions)
 unfolding are_sound
@@ -44,8 +46,8 @@ pub flat_starts : (pages : ℕ) → All (λ vcpu. IsInstructionAddress vcpu.star
 flat_starts pages zero d within = refl
 flat_starts pages (suc k) d within = absurd (omega arith)
 
-pub flat_built : (pages : ℕ) → is_built (flat pages) ≡ true
-flat_built pages = refl
+pub flat_few : (pages : ℕ) → length (flat pages).vcpus ≤ 8
+flat_few pages = omega arith
 
 -- ---- a tree's plan
 
@@ -133,3 +135,58 @@ tree_faultless entries area p is =
     subst (λ (rs : List Region). first_fault area rs ≡ None) same
     (regions_faultless area (in_turn with_node nothing_kept (children aspace.value entries))
     found.value found.first)
+
+-- ---- a tree's VCPUs are few
+
+with_more : (vcpus next : List VcpuPlan) (r : Result VcpuPlan PlanFault)
+    → (r >>= λ vcpu. Ok (vcpus ++ vcpu ∷ [])) ≡ Ok next → length next ≡ length vcpus + 1
+with_more vcpus next (Err e) is = absurd cc
+with_more vcpus next (Ok vcpu) is =
+    let same : vcpus ++ vcpu ∷ [] ≡ next = cc in
+    sym (ap length same) ∙ length-append vcpus (vcpu ∷ [])
+
+-- as many as nodes
+each_more : (vcpus all : List VcpuPlan) (nodes : List Numbered)
+    → in_turn with_vcpu vcpus nodes ≡ Ok all → length all ≡ length vcpus + length nodes
+each_more vcpus all [] is =
+    let same : vcpus ≡ all = cc in
+    sym (ap length same) ∙ (let e : length vcpus ≡ length vcpus + 0 = omega arith in e)
+each_more vcpus all (n ∷ ns) is =
+    let step = went_on (with_vcpu vcpus n) (λ next. in_turn with_vcpu next ns) all is in
+    let one = with_more vcpus step.value (fault_at n.0 (vcpu_of n.1.props)) step.first in
+    let rest = each_more step.value all ns step.rest in
+    omega (arith, one, rest)
+
+counted_few : (first ninth : Option Numbered) (r : Result (List VcpuPlan) PlanFault)
+    (all : List VcpuPlan) → counted first ninth r ≡ Ok all → (r ≡ Ok all) × (ninth ≡ None)
+counted_few None ninth r all is = cc
+counted_few (Some first) None r all is = (is, refl)
+counted_few (Some first) (Some ninth) r all is = cc
+
+none_past : {X : Type 0} (xs : List X) (k : ℕ) → slice_get xs k ≡ None → length xs ≤ k
+none_past [] k is = omega arith
+none_past (x ∷ xs) zero is = absurd cc
+none_past (x ∷ xs) (suc k) is = let rest = none_past xs k is in omega (arith, rest)
+
+vcpus_few : (nodes : List Numbered) (all : List VcpuPlan) → vcpus_of nodes ≡ Ok all
+    → length all ≤ 8
+unfolding vcpus_of
+vcpus_few nodes all is =
+    let parts = counted_few (slice_get nodes 0) (slice_get nodes 8) (in_turn with_vcpu [] nodes) all
+    is in
+    omega (arith, each_more [] all nodes parts.0, none_past nodes 8 parts.1)
+
+pub tree_few : (entries : List Entry) (area : Span) (p : Plan) → plan entries area ≡ Ok p
+    → length p.vcpus ≤ 8
+unfolding plan
+tree_few entries area p is =
+    let aspace = went_on (number_needed NoAspace (root_child (codes "aspace") entries)) _ p is in
+    let vcpus = went_on (number_needed NoVcpus (root_child (codes "vcpus") entries)) _ p aspace.rest
+    in
+    let described = went_on (vcpus_of (children vcpus.value entries)) _ p vcpus.rest in
+    let found = went_on (regions_of area (children aspace.value entries)) _ p described.rest in
+    let same : described.value ≡ p.vcpus =
+    let end : record { regions = found.value; vcpus = described.value } ≡ p = cc in
+    ap (λ (x : Plan). x.vcpus) end in
+    subst (λ (vs : List VcpuPlan). length vs ≤ 8) same
+    (vcpus_few (children vcpus.value entries) described.value described.first)

@@ -134,7 +134,7 @@ trail_counts shown _ _ (OneMore cores trail core piece earlier all) =
       trail_counts shown cores trail earlier,
     )
 
-pub steps_few : {E : Type 0} (shown : E → Core) (plan : Plan) (t : ℕ) (m : Machine)
-    (trail : List E) → IsTrail shown (visited plan 0 t m) trail → steps plan 0 t m ≤ length trail
+pub steps_few : {E : Type 0} (shown : E → Core) (plan : Plan) (h t : ℕ) (m : Machine)
+    (trail : List E) → IsTrail shown (visited plan h t m) trail → steps plan h t m ≤ length trail
 unfolding steps
-steps_few shown plan t m trail pieces = trail_counts shown (visited plan 0 t m) trail pieces
+steps_few shown plan h t m trail pieces = trail_counts shown (visited plan h t m) trail pieces

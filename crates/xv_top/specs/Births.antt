@@ -1,5 +1,5 @@
 -- The commands by which a guest is born.
-use Rattle.std.specs.Prelude.{ℕ, nat_lt, ◌==◌, Bool, if◌then◌else◌, List, [], ◌∷◌, ◌++◌}
+use Rattle.std.specs.Prelude.{ℕ, nat_lt, if◌then◌else◌, List, [], ◌∷◌, ◌++◌}
 use Rattle.std.specs.Prelude.{length, is_some, codes, Result, Ok, Err}
 use Rattle.xv_outside.specs.Fetch.{FileMap}
 use Rattle.xv_fdt.specs.Fault as fdt
@@ -14,7 +14,7 @@ use Rattle.xv_lone.specs.Journal.{Born}
 use Rattle.xv_top.specs.Answer.{Answer, says, refused, with_file}
 use Rattle.xv_top.specs.Files.{file_of, most_tree}
 use Rattle.xv_top.specs.Texts.{frames_text, created_text, tree_text, plan_text}
-use Rattle.xv_top.specs.World.{World, free, least_root, guest_named}
+use Rattle.xv_top.specs.World.{World, free, least_root, guest_named, no_turns}
 
 -- a guest of this plan is born, with the least root that no other has
 abbrev pub created : World → List ℕ → Plan → Answer
@@ -27,6 +27,7 @@ created w name plan = record {
           root = least_root w;
           plan = plan;
           machine = new_machine plan w.clock;
+          last = no_turns;
         } ∷ [];
   };
   entries = record { name = name; entry = Born w.clock } ∷ [];
@@ -52,13 +53,8 @@ flat_answer w name pages = where_alone w name (admitted w name (flat pages))
 
 -- ---- from a tree
 
--- the plans that are built have one VCPU
-abbrev pub is_built : Plan → Bool
-is_built plan = length plan.vcpus == 1
-
 abbrev pub plan_answer : World → List ℕ → Result Plan PlanFault → Answer
-plan_answer w name (Ok plan) =
-    if is_built plan then admitted w name plan else refused w (codes "unbuilt")
+plan_answer w name (Ok plan) = admitted w name plan
 plan_answer w name (Err fault) = says w (plan_text fault)
 
 abbrev pub tree_answer : World → List ℕ → Result (List Entry) fdt.Fault → Answer

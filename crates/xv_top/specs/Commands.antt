@@ -13,7 +13,7 @@ use Rattle.xv_top.specs.Births.{create_answer, flat_answer}
 use Rattle.xv_top.specs.Contents.{load_guest, poke_guest, mem_guest, digest_guest, audit_guest}
 use Rattle.xv_base.specs.Serial.{queue_room}
 use Rattle.xv_lone.specs.Device.{device_at, serial_of}
-use Rattle.xv_top.specs.Lists.{full_text, guests_text, input_text, ports_of, ports_text}
+use Rattle.xv_top.specs.Lists.{dump_text, full_text, guests_text, input_text, ports_of, ports_text}
 use Rattle.xv_top.specs.Lists.{uart_named}
 use Rattle.xv_top.specs.Texts.{clock_text, kicked_text, ran_text, regs_text, tick_text}
 use Rattle.xv_top.specs.World.{LiveGuest, World, RunSoFar, most_turns, guest_named, run_of}
@@ -60,6 +60,14 @@ input_at w name dev bytes g region =
 
 abbrev pub input_guest : World → (name dev bytes : List ℕ) → Option LiveGuest → Answer
 input_guest w name dev bytes o = where_there w (at_port w dev (input_at w name dev bytes)) o
+
+-- `vserial dump`: what the UART sent is shown, and kept no more
+abbrev pub dump_at : World → (name dev : List ℕ) → LiveGuest → (region : ℕ) → Answer
+dump_at w name dev g region = changes w name (change.Dump region)
+    (dump_text name dev (serial_of (device_at g.machine.devices region)))
+
+abbrev pub dump_guest : World → (name dev : List ℕ) → Option LiveGuest → Answer
+dump_guest w name dev o = where_there w (at_port w dev (dump_at w name dev)) o
 
 -- `clock`, which doesn't go back
 abbrev pub clock_answer : World → ℕ → Answer
@@ -109,7 +117,7 @@ answer files w (command.Audit name) = audit_guest w name (guest_named name w)
 answer files w command.List = list_answer w
 answer files w (command.Input name port bytes) =
     input_guest w name port bytes (guest_named name w)
-answer files w (command.Dump name port) = unbuilt w
+answer files w (command.Dump name port) = dump_guest w name port (guest_named name w)
 answer files w command.Ports = ports_answer w
 answer files w (command.Clock value) = clock_answer w value
 answer files w (command.Tick value) = tick_answer w value

@@ -3,6 +3,8 @@ use Rattle.std.specs.Prelude.{ℕ, Bool, true, false, ◌&&◌, List, ◌++◌, 
 use Rattle.std.specs.Prelude.{decimal, codes}
 use Rattle.std.specs.List.{filter, flat_map, position}
 use Rattle.std.specs.Str.{bytes_eq}
+use Rattle.xv_base.specs.Serial.{Serial}
+use Rattle.xv_print.specs.Escape.{escaped}
 use Rattle.xv_region.specs.declared.plan.DeviceKind.{DeviceKind}
 use Rattle.xv_region.specs.declared.plan.DeviceKind.TheVariants.{Uart, Plic, Finisher}
 use Rattle.xv_region.specs.declared.plan.Kind.{Kind}
@@ -97,3 +99,16 @@ ports_head count = codes "vserial " ++ decimal count ++ line_end
 -- how many serial ports there are, and a line for each
 abbrev pub ports_text : (ports : List (List ℕ)) → List ℕ
 ports_text ports = ports_head (length ports) ++ flat_map (λ port. port ++ line_end) ports
+
+-- the line that heads the output that a serial port kept: how many bytes it lost before, and how
+-- many there are
+unfoldable pub dump_head : (name dev : List ℕ) → (lost count : ℕ) → List ℕ
+dump_head name dev lost count =
+    codes "dump " ++ port_text name dev ++ codes " lost " ++ decimal lost ++ codes " bytes "
+    ++ decimal count ++ line_end
+
+-- and a line with it, each byte as text
+abbrev pub dump_text : (name dev : List ℕ) → Serial → List ℕ
+dump_text name dev serial =
+    dump_head name dev serial.lost (length serial.kept)
+    ++ (flat_map escaped serial.kept ++ line_end)

@@ -10,28 +10,31 @@ use Rattle.xv_top.specs.declared.manager.Manager.{Manager}
 use Rattle.xv_top.specs.declared.manager.Named.{Named}
 use Rattle.xv_top.specs.declared.stop.LineStop.{LineStop}
 use Rattle.xv_top.specs.declared.stop.LineStop.TheVariants as stops
-use Rattle.xv_top.specs.World.{LiveGuest, World, GuestEntry, RunSoFar, most_turns, one_turn, pick}
+use Rattle.xv_top.specs.World.{LiveGuest, World, GuestEntry, RunSoFar, most_turns, candidate}
+use Rattle.xv_top.specs.World.{one_turn, pick}
 use Rattle.xv_top.specs.Answer.{Answer}
 use Rattle.xv_top.specs.Commands.{is_fetching, may_want_memory}
 use Rattle.xv_script.specs.declared.command.Command.{Command}
 
 -- a guest of the host, as the world has it under a name
-abbrev pub live_guest : List ℕ → Guest → List ℕ → LiveGuest
-live_guest name g bytes = record {
+abbrev pub live_guest : (name last : List ℕ) → Guest → List ℕ → LiveGuest
+live_guest name last g bytes = record {
   name = name;
   root = (held_of g).root;
   plan = g.plan;
   machine = lone_of g bytes;
+  last = last;
 }
 
 -- the guest that lives at a place, if one does
-abbrev pub live_at : List ℕ → Option Guest → List ℕ → List LiveGuest
-live_at name None bytes = []
-live_at name (Some g) bytes = live_guest name g bytes ∷ []
+abbrev pub live_at : (name last : List ℕ) → Option Guest → List ℕ → List LiveGuest
+live_at name last None bytes = []
+live_at name last (Some g) bytes = live_guest name last g bytes ∷ []
 
-abbrev pub guests_of : Option Named → Places → List ℕ → List LiveGuest
-guests_of None places bytes = []
-guests_of (Some named) places bytes = live_at named.name (guest_at places named.key) bytes
+abbrev pub guests_of : Option Named → (last : List ℕ) → Places → List ℕ → List LiveGuest
+guests_of None last places bytes = []
+guests_of (Some named) last places bytes =
+    live_at named.name last (guest_at places named.key) bytes
 
 -- the world that the manager keeps, over these host bytes
 abbrev pub world_of : Manager → List ℕ → World
@@ -41,26 +44,25 @@ world_of m bytes = record {
   clock = m.clock;
   tick = m.tick;
   turns = m.turns;
-  guests = guests_of m.guest m.host.guests bytes;
+  guests = guests_of m.guest m.last m.host.guests bytes;
 }
 
 abbrev pub named : List ℕ → ℕ → Named
 named name key = record { name = name; key = key }
 
 -- the world's live guest of a name, by its key
-abbrev pub live_of : List ℕ → Option ℕ → Places → List ℕ → Option LiveGuest
-live_of name None places bytes = None
-live_of name (Some key) places bytes =
-    option_map (λ g. live_guest name g bytes) (guest_at places key)
+abbrev pub live_of : (name last : List ℕ) → Option ℕ → Places → List ℕ → Option LiveGuest
+live_of name last None places bytes = None
+live_of name last (Some key) places bytes =
+    option_map (λ g. live_guest name last g bytes) (guest_at places key)
 
 -- ---- what stands between two lines
 
--- the guest of a key lives, with one VCPU, and no other guest
+-- the guest of a key lives, and no other guest
 pub record IsAlone (places : Places) (key : ℕ) : Type 0 where
   pub inside : key < 16
   pub guest : Guest
   pub only : places ≡ slice_set (replicate 16 None) key (Some guest)
-  pub planned : length guest.plan.vcpus ≡ 1
   pub views : length guest.vcpus ≡ length guest.plan.vcpus
 
 -- the guests of the host are the one that has a name
@@ -110,12 +112,12 @@ idle_of idle = if idle then 1 else 0
 abbrev pub going : World → ℕ → ℕ → List GuestEntry → RunSoFar
 going w idle work entries = record { world = w; idle = idle; work = work; entries = entries }
 
--- the guest of this key has the next turn, whatever host memory holds
-pub record IsPicked (m : Manager) (key : ℕ) : Type 0 where
+-- this VCPU of the guest of this key has the next turn, whatever host memory holds
+pub record IsPicked (m : Manager) (key vcpu : ℕ) : Type 0 where
   pub name : List ℕ
   pub guest : m.guest ≡ Some (named name key)
-  pub picked : (bytes : List ℕ) → pick (world_of m bytes)
-      ≡ live_of name (Some key) m.host.guests bytes
+  pub picked : (bytes : List ℕ) → pick (world_of m bytes) ≡ option_map
+      (λ g. candidate (live_guest name m.last g bytes) vcpu) (guest_at m.host.guests key)
 
 -- the turn that a run makes after so many idle turns and lone steps, by what the manager says of it
 pub record IsTurn (before after : World) (is_idle : Bool) (taken idled worked : ℕ)

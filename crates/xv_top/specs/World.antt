@@ -1,11 +1,14 @@
 -- The world: the clock, the scheduler's counts, and the lone machines of the live guests. It has no
 -- host memory and no hart.
 use Rattle.std.specs.Prelude.{ℕ, zero, suc, ◌+◌, ◌-◌, ◌%◌, ◌^◌, Bool, if◌then◌else◌, List, [], ◌∷◌}
-use Rattle.std.specs.Prelude.{◌++◌, ◌==◌, not, map, find, sum_by, Option, Some, None}
-use Rattle.std.specs.List.{list_any, position_or_len}
+use Rattle.std.specs.Prelude.{◌++◌, ◌==◌, not, ◌&&◌, ◌||◌, nat_lt, map, find, sum_by, length}
+use Rattle.std.specs.Prelude.{replicate}
+use Rattle.std.specs.Prelude.{get_or, slice_get, slice_set, Option, Some, None}
+use Rattle.std.specs.List.{filter, flat_map, list_any, position_or_len}
 use Rattle.std.specs.Str.{bytes_eq}
 use Rattle.xv_base.specs.declared.keys.Span.{Span}
 use Rattle.xv_pool.specs.FrameList.{up_from}
+use Rattle.xv_region.specs.declared.plan.VcpuPlan.{VcpuPlan}
 use Rattle.xv_region.specs.Need.{need}
 use Rattle.xv_region.specs.Plan.{Plan}
 use Rattle.xv_lone.specs.Machine.{Machine, guest_time}
@@ -21,6 +24,9 @@ pub record LiveGuest : Type 0 where
   pub root : ℕ
   pub plan : Plan
   pub machine : Machine
+  -- the number of the last turn of each VCPU, 0 before it has had one; of as many as a guest may
+  -- have
+  pub last : List ℕ
 
 -- pool is the number of frames that guests may take, area what is reserved of host memory, turns
 -- the number of the turns so far; guests stand in order of creation
@@ -68,13 +74,68 @@ changed_guest name change g =
 abbrev pub with_change : List ℕ → Change → World → World
 with_change name change w = record w { guests = map (changed_guest name change) w.guests }
 
--- whether VCPU number vcpu may have a turn in this world
-abbrev pub is_ready : World → ℕ → LiveGuest → Bool
-is_ready w vcpu g = ready.is_ready vcpu (guest_time w.clock g.machine) g.machine
+-- a guest at its create has had no turn
+abbrev pub no_turns : List ℕ
+no_turns = replicate 8 0
 
--- whose turn it is: the first created of the guests that are ready. Each has one VCPU, number 0.
-abbrev pub pick : World → Option LiveGuest
-pick w = find (is_ready w 0) w.guests
+-- ---- whose turn it is
+
+-- whether VCPU number vcpu may have a turn in this world
+abbrev pub is_ready : World → LiveGuest → (vcpu : ℕ) → Bool
+is_ready w g vcpu = ready.is_ready vcpu (guest_time w.clock g.machine) g.machine
+
+-- a VCPU that is ready
+pub record Candidate : Type 0 where
+  pub guest : LiveGuest
+  pub vcpu : ℕ
+
+abbrev pub candidate : LiveGuest → (vcpu : ℕ) → Candidate
+candidate g vcpu = record { guest = g; vcpu = vcpu }
+
+-- those of a guest, by their numbers
+abbrev pub candidates_of : World → LiveGuest → List Candidate
+candidates_of w g =
+    map (candidate g) (filter (is_ready w g) (up_from 0 (length g.plan.vcpus)))
+
+abbrev pub priority_in : Option VcpuPlan → ℕ
+priority_in None = 0
+priority_in (Some p) = p.priority
+
+abbrev pub priority_of : Candidate → ℕ
+priority_of c = priority_in (slice_get c.guest.plan.vcpus c.vcpu)
+
+abbrev pub last_of : Candidate → ℕ
+last_of c = get_or c.guest.last c.vcpu 0
+
+-- one goes before another by the greater priority, and else by the earlier last turn
+abbrev pub goes_before : Candidate → Candidate → Bool
+goes_before c d =
+    nat_lt (priority_of d) (priority_of c)
+    || (priority_of c == priority_of d && nat_lt (last_of c) (last_of d))
+
+abbrev pub first_of_two : Option Candidate → Candidate → Candidate
+first_of_two None c = c
+first_of_two (Some b) c = if goes_before c b then c else b
+
+-- of these, and of one that stands before them: that before which none goes. Of several it is the
+-- first
+unfoldable pub first_of : Option Candidate → List Candidate → Option Candidate
+first_of best [] = best
+first_of best (c ∷ cs) = first_of (Some (first_of_two best c)) cs
+
+-- the guests stand in order of creation
+abbrev pub pick : World → Option Candidate
+pick w = first_of None (flat_map (candidates_of w) w.guests)
+
+-- it is the last turn of a candidate's VCPU
+abbrev pub noted : Candidate → (turn : ℕ) → LiveGuest → LiveGuest
+noted c turn g =
+    if bytes_eq g.name c.guest.name then record g { last = slice_set g.last c.vcpu turn } else g
+
+abbrev pub with_turn : Candidate → (turn : ℕ) → World → World
+with_turn c turn w = record w { guests = map (noted c turn) w.guests }
+
+-- ---- turns
 
 -- a turn went by
 abbrev pub passed : World → World
@@ -100,19 +161,26 @@ pub record RunSoFar : Type 0 where
   pub work : ℕ
   pub entries : List GuestEntry
 
--- the guest's turn at the world's clock
-abbrev pub guest_turn : World → Change
-guest_turn w = Turn 0 w.clock
+-- a VCPU's turn at the world's clock
+abbrev pub turn_at : World → (vcpu : ℕ) → Change
+turn_at w vcpu = Turn vcpu w.clock
 
--- one turn of the world: the picked guest's, or an idle one
-abbrev pub one_turn : RunSoFar → Option LiveGuest → RunSoFar
+-- the world after a VCPU's turn, whose number is one more than that of the last turn
+abbrev pub turned : Candidate → World → World
+turned c w =
+    passed (with_turn c (w.turns + 1) (with_change c.guest.name (turn_at w c.vcpu) w))
+
+-- one turn of the world: the picked VCPU's, or an idle one
+abbrev pub one_turn : RunSoFar → Option Candidate → RunSoFar
 one_turn r None = record r { world = passed r.world; idle = r.idle + 1 }
-one_turn r (Some g) = record {
-  world = passed (with_change g.name (guest_turn r.world) r.world);
-  idle = r.idle;
-  work = r.work + steps g.plan 0 (guest_time r.world.clock g.machine) g.machine;
-  entries = r.entries ++ change_entry g.name (guest_turn r.world) ∷ [];
-}
+one_turn r (Some c) =
+    let g = c.guest in
+    record {
+      world = turned c r.world;
+      idle = r.idle;
+      work = r.work + steps g.plan c.vcpu (guest_time r.world.clock g.machine) g.machine;
+      entries = r.entries ++ change_entry g.name (turn_at r.world c.vcpu) ∷ [];
+    }
 
 -- so many turns more
 unfoldable pub run_from : ℕ → RunSoFar → RunSoFar

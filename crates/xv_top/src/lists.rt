@@ -3,6 +3,7 @@ ghost use Rattle.std.specs.Prelude.{◌≡◌, ◌+◌, ◌*◌, ◌≤◌, ◌&
 ghost use Rattle.std.specs.List.{filter, flat_map, position};
 ghost use Rattle.std.specs.Str.{bytes_eq};
 ghost use Rattle.xv_lone.specs.declared.vcpu.GuestState.TheVariants as states;
+ghost use Rattle.xv_print.specs.Escape.{escaped};
 ghost use Rattle.xv_print.specs.declared.printer.TheConstants.{ROOM};
 ghost use Rattle.xv_top.specs.Lists as lists;
 
@@ -11,6 +12,7 @@ use xv_bus::Ending;
 use xv_lone::GuestState;
 use xv_print::Printer;
 use xv_region::{DeviceKind, Kind, Region};
+use xv_vserial::Vserial;
 
 /// `guests COUNT`
 #[tactic(auto, unfolding(crate::specs::Lists::guests_head))]
@@ -132,6 +134,47 @@ pub fn input(printer: &mut Printer, name: &[u8], dev: &DevName, count: u64)
     printer.text(b" ");
     printer.number(count);
     printer.text(b"\n");
+}
+
+/// `dump NAME/DEV lost LOST bytes COUNT`, and a line with the output that is kept
+pub fn dump(printer: &mut Printer, name: &[u8], dev: &DevName, serial: &Vserial)
+    requires empty { printer.old ≡ [] }
+    requires short { length name.now ≤ 40 }
+    ensures { printer.new ≡ lists.dump_text name.now dev.now serial.now }
+{
+    dump_head(printer, name, dev, serial.lost(), serial.kept_len() as u64);
+    kept(printer, serial);
+    printer.text(b"\n");
+}
+
+/// `dump NAME/DEV lost LOST bytes COUNT`
+#[tactic(auto, unfolding(crate::specs::Lists::dump_head))]
+fn dump_head(printer: &mut Printer, name: &[u8], dev: &DevName, lost: u64, count: u64)
+    requires empty { printer.old ≡ [] }
+    requires short { length name.now ≤ 40 }
+    ensures text { printer.new ≡ lists.dump_head name.now dev.now lost count }
+    ensures short { length printer.new ≤ 200 }
+{
+    printer.text(b"dump ");
+    port_name(printer, name, dev);
+    printer.text(b" lost ");
+    printer.number(lost);
+    printer.text(b" bytes ");
+    printer.number(count);
+    printer.text(b"\n");
+}
+
+/// The output that is kept, the oldest byte first.
+fn kept(printer: &mut Printer, serial: &Vserial)
+    requires room { length printer.old + 4 * length serial.now.kept ≤ ROOM }
+    ensures text { printer.new ≡ printer.old ++ flat_map escaped serial.now.kept }
+    ensures short { length printer.new ≤ length printer.old + 4 * length serial.now.kept }
+{
+    for at in 0..serial.kept_len() {
+        if let Some(byte) = serial.kept_at(at) {
+            printer.escaped(byte);
+        }
+    }
 }
 
 /// The first of these regions that is the serial port of that name.

@@ -52,6 +52,8 @@ pub struct Named {
 pub struct Manager {
     host: Host,
     guest: Option<Named>,
+    // the number of the last turn of each VCPU of the guest, 0 before it has had one
+    last: [u32; 8],
     clock: u64,
     tick: u64,
     turns: u32,
@@ -83,6 +85,7 @@ impl Manager {
         Ok(Manager {
             host,
             guest: None,
+            last: [0; 8],
             clock: 0,
             tick: FIRST_TICK,
             turns: 0,
@@ -92,7 +95,7 @@ impl Manager {
     /// The key of the live guest of that name.
     fn key_of(&self, name: &GuestName) -> Option<GuestKey>
         ensures guest { (bytes : List ℕ) → worlds.guest_named name.now (world_of self.now bytes)
-            ≡ live_of name.now result self.now.host.guests bytes }
+            ≡ live_of name.now self.now.last result self.now.host.guests bytes }
         ensures named { IfSome result (λ key. self.now.guest ≡ Some (named name.now key)) }
     {
         let guest = self.guest?;
@@ -113,7 +116,7 @@ impl Manager {
             (bytes : List ℕ) (next : worlds.LiveGuest → Answer) →
             where_there (world_of self.now bytes) next
             (worlds.guest_named name.now (world_of self.now bytes))
-            ≡ next (live_guest name.now g bytes))) }
+            ≡ next (live_guest name.now self.now.last g bytes))) }
         ensures empty { IfSome result (λ key. printer.new ≡ []) }
         ensures refused { result ≡ None → (bytes : List ℕ) (next : worlds.LiveGuest → Answer) →
             where_there (world_of self.now bytes) next
@@ -137,7 +140,7 @@ impl Manager {
             (bytes : List ℕ) (next : worlds.LiveGuest → Answer) →
             where_reset (world_of self.now bytes) next
             (worlds.guest_named name.now (world_of self.now bytes))
-            ≡ next (live_guest name.now g bytes))) }
+            ≡ next (live_guest name.now self.now.last g bytes))) }
         ensures loadable { IfSome result (λ key. (bytes : List ℕ) →
             is_loadable (worlds.guest_named name.now (world_of self.now bytes)) ≡ true) }
         ensures empty { IfSome result (λ key. printer.new ≡ []) }
@@ -229,6 +232,10 @@ impl Manager {
             }
             Command::Input(name, dev, bytes) => {
                 self.input(name, dev, bytes.0.as_slice(), printer);
+                Ok(())
+            }
+            Command::Dump(name, dev) => {
+                self.dump(name, dev, printer);
                 Ok(())
             }
             Command::Ports => {

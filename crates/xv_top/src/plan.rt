@@ -2,7 +2,6 @@
 ghost use Rattle.std.specs.Prelude.{◌≡◌, ◌≤◌, codes, IfOk};
 ghost use Rattle.xv_region.specs.Plan.{flat};
 ghost use Rattle.xv_script.specs.Command.{most_pages};
-ghost use Rattle.xv_top.specs.Births.{is_built};
 
 use std::alloc::Global;
 use xv_base::{DevName, NoMemory, dev_name_of};
@@ -46,11 +45,4 @@ fn flat_name() -> DevName
         unreachable!("it is a node's name");
     };
     name
-}
-
-/// Whether guests of that plan are built: it has one VCPU.
-pub fn is_built(plan: &Plan) -> bool
-    ensures { result ≡ is_built plan.now }
-{
-    plan.vcpus.len() == 1
 }

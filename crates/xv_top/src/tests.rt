@@ -1,11 +1,13 @@
 mod rows;
+mod tree_rows;
 mod trees;
 
 use crate::{boot, lists};
-use rows::{FAULT_ROWS, FileOf, ROWS, Row, TREES, TreeRow};
+use rows::{FAULT_ROWS, FileOf, ROWS, Row};
 use std::alloc::Global;
 use std::process::Abort;
 use std::test::Fail;
+use tree_rows::{TREE_ROWS, TREES, TreeRow};
 use trees::filled;
 use xv_base::{dev_name_of, file_name_of};
 use xv_bus::Ending;
@@ -137,6 +139,11 @@ fn faults_and_refused_scripts(rt: HostRuntime) -> Result<(), Fail> {
 }
 
 #[test]
+fn guests_of_trees(rt: HostRuntime) -> Result<(), Fail> {
+    check_runs(&rt, rt.alloc(), &TREE_ROWS)
+}
+
+#[test]
 fn trees_in_files(rt: HostRuntime) -> Result<(), Fail> {
     check_trees(&rt, rt.alloc(), &TREES)
 }
@@ -161,7 +168,7 @@ fn words_that_are_no_usage(rt: HostRuntime) -> Result<(), Fail> {
     Ok(())
 }
 
-// No guest of a script has these states yet, nor a UART.
+// Some of these states no guest of a script has yet.
 #[test]
 fn lists_of_guests_and_ports(rt: HostRuntime) -> Result<(), Fail> {
     let alloc = rt.alloc();

@@ -1,5 +1,5 @@
 //! Whether a guest may be born, and its birth.
-ghost use Rattle.std.specs.Prelude.{◌≡◌, ℕ, List, [], length, None, true, false, IsTrue, OnOk};
+ghost use Rattle.std.specs.Prelude.{◌≡◌, ◌≤◌, ℕ, List, [], length, None, true, false, IsTrue, OnOk};
 ghost use Rattle.std.specs.Prelude.{OnErr, IsErrOf};
 ghost use Rattle.std.specs.List.{All};
 ghost use Rattle.xv_csr.specs.Fields.{IsInstructionAddress};
@@ -18,7 +18,7 @@ use xv_region::{Plan, need_of};
 
 impl Manager {
     ghost use Rattle.xv_top.specs.Answer.{Answer, says};
-    ghost use Rattle.xv_top.specs.Births.{admitted, is_built, where_alone};
+    ghost use Rattle.xv_top.specs.Births.{admitted, where_alone};
     ghost use Rattle.xv_top.specs.Manager.{world_of, Gives, HasGuests, HasStopped, IsSound};
 
     /// Whether no guest lives, so that one of that name may be born, or the line that refuses it is
@@ -60,7 +60,7 @@ impl Manager {
         requires regions { IsTrue (are_sound plan.regions) }
         requires faultless { first_fault machine.old.area plan.regions ≡ None }
         requires starts { All (λ vcpu. IsInstructionAddress vcpu.start) plan.vcpus }
-        requires built { is_built plan ≡ true }
+        requires few { length plan.vcpus ≤ 8 }
         ensures answer { OnOk result (Gives
             (admitted (world_of self.old machine.old.mem) name.now plan)
             self.old self.new machine.old machine.new printer.new) }
@@ -77,6 +77,7 @@ impl Manager {
         match self.host.admit(alloc, machine, plan, self.clock) {
             Ok(key) => {
                 self.guest = Some(Named { name: *name, key });
+                self.last = [0; 8];
                 report::created(printer, name.bytes(), vcpus, regions, needed);
                 Ok(())
             }

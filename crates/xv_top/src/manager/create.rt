@@ -10,7 +10,6 @@ ghost use Rattle.xv_region.specs.Rules.{are_sound, first_fault};
 
 use super::Manager;
 use super::fetch::fetch;
-use crate::plan::is_built;
 use crate::refusals;
 use crate::stop::LineStop;
 use std::alloc::Global;
@@ -130,7 +129,7 @@ impl Manager {
         ensures size { length machine.new.mem ≡ length machine.old.mem }
     {
         match plan_of(alloc, tree, machine.area()) {
-            Ok(plan) => self.of_plan(alloc, machine, name, plan, printer),
+            Ok(plan) => self.admit(alloc, machine, name, plan, printer),
             Err(PlanFault::At { kind, node }) => {
                 refusals::plan(printer, kind, node);
                 Ok(())
@@ -141,37 +140,5 @@ impl Manager {
             }
             Err(PlanFault::NoMemory) => Err(LineStop::NoMemory),
         }
-    }
-
-    /// A guest of that plan, if it is built.
-    fn of_plan(
-        &mut self,
-        alloc: Global,
-        machine: &mut Machine,
-        name: &GuestName,
-        plan: Plan,
-        printer: &mut Printer,
-    ) -> Result<(), LineStop>
-        requires empty { printer.old ≡ [] }
-        requires alone { self.old.guest ≡ None }
-        requires sound { IsSound self.old machine.old }
-        requires regions { IsTrue (are_sound plan.regions) }
-        requires faultless { first_fault machine.old.area plan.regions ≡ None }
-        requires starts { All (λ vcpu. IsInstructionAddress vcpu.start) plan.vcpus }
-        ensures answer { OnOk result (Gives
-            (plan_answer (world_of self.old machine.old.mem) name.now (Ok plan))
-            self.old self.new machine.old machine.new printer.new) }
-        ensures stopped { OnErr result
-            (HasStopped self.old self.new machine.old machine.new printer.new) }
-        ensures file { IsErrOf result LineStop.FileFault → ⊥ }
-        ensures sound { IsSound self.new machine.new }
-        ensures machine { machine.new ≡ record machine.old { mem = machine.new.mem } }
-        ensures size { length machine.new.mem ≡ length machine.old.mem }
-    {
-        if !is_built(&plan) {
-            refusals::refused(printer, b"unbuilt");
-            return Ok(());
-        }
-        self.admit(alloc, machine, name, plan, printer)
     }
 }

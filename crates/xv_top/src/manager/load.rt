@@ -86,7 +86,7 @@ impl Manager {
         requires there { self.old.guest ≡ Some (named name.now key) }
         ensures answer { OfGuest self.old.host.guests key (λ g.
             Gives (load_bytes (world_of self.old machine.old.mem) name.now gpa
-            (live_guest name.now g machine.old.mem) image.now)
+            (live_guest name.now self.old.last g machine.old.mem) image.now)
             self.old self.new machine.old machine.new printer.new) }
         ensures sound { IsSound self.new machine.new }
         ensures machine { machine.new ≡ record machine.old { mem = machine.new.mem } }

@@ -28,12 +28,12 @@ impl Manager {
         requires there { self.old.guest ≡ Some (named name.now key) }
         ensures put { result ≡ true → (text : List ℕ) → OfGuest self.old.host.guests key (λ g.
             Gives (put_into (world_of self.old machine.old.mem) name.now gpa bytes.now text
-            (live_guest name.now g machine.old.mem))
+            (live_guest name.now self.old.last g machine.old.mem))
             self.old self.new machine.old machine.new text) }
         ensures empty { result ≡ true → printer.new ≡ [] }
         ensures refused { result ≡ false → (text : List ℕ) → OfGuest self.old.host.guests key
             (λ g. Gives (put_into (world_of self.old machine.old.mem) name.now gpa bytes.now text
-            (live_guest name.now g machine.old.mem))
+            (live_guest name.now self.old.last g machine.old.mem))
             self.old self.new machine.old machine.new printer.new) }
         ensures sound { IsSound self.new machine.new }
         ensures machine { machine.new ≡ record machine.old { mem = machine.new.mem } }

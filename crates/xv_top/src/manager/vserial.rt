@@ -1,4 +1,4 @@
-//! `vserial list` and `vserial input`
+//! `vserial list`, `vserial input` and `vserial dump`
 ghost use Rattle.std.specs.Prelude.{◌≡◌, [], IfSome, IsSome};
 
 use super::Manager;
@@ -10,7 +10,7 @@ impl Manager {
     ghost use Rattle.xv_guest.specs.Devices.{IsUart};
     ghost use Rattle.xv_host.specs.Change.{OfGuest};
     ghost use Rattle.xv_host.specs.Places.{guest_at};
-    ghost use Rattle.xv_top.specs.Commands.{input_guest, ports_answer};
+    ghost use Rattle.xv_top.specs.Commands.{dump_guest, input_guest, ports_answer};
     ghost use Rattle.xv_top.specs.Lists.{uart_named};
     ghost use Rattle.xv_top.specs.Manager.{world_of, Gives, HasGuests, IsSound};
     ghost use Rattle.xv_top.specs.World.{guest_named};
@@ -56,6 +56,26 @@ impl Manager {
             Ok(()) => lists::input(printer, name.bytes(), dev, bytes.len() as u64),
             Err(full) => refusals::full(printer, full.free),
         }
+    }
+
+    /// `vserial dump NAME/DEV`
+    pub(super) fn dump(&mut self, name: &GuestName, dev: &DevName, printer: &mut Printer)
+        requires empty { printer.old ≡ [] }
+        requires guests { HasGuests self.old.guest self.old.host.guests }
+        ensures answer { (machine : Machine) → let w = world_of self.old machine.mem in
+            Gives (dump_guest w name.now dev.now (guest_named name.now w))
+            self.old self.new machine machine printer.new }
+        ensures sound { (machine : Machine) → IsSound self.old machine → IsSound self.new machine }
+    {
+        let Some(key) = self.there(name, printer) else {
+            return;
+        };
+        let Some(region) = self.port(key, dev) else {
+            return refusals::refused(printer, b"device");
+        };
+        let serial = self.host.uart(key, region).serial();
+        lists::dump(printer, name.bytes(), dev, serial);
+        serial.clear_kept();
     }
 
     /// The region of the serial port of that name of a live guest.

@@ -12,6 +12,6 @@ returns-in-10-clause-monitored g c =
     let v = c.args.view.now in
     let r = c.args.regs.now in
     let bytes = c.args.mem.now in
-    c.call.ensures.calls c.args.time bytes
+    c.answer_call.ensures.calls c.args.time bytes
     ∙ sym (monitored_call guest.plan h c.args.time (on_hart_of guest h v r bytes Started)
     (view_of v r Started) (word_of r bytes) c.args.trap.now c.in-10.is)

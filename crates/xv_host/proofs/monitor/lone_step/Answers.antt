@@ -146,8 +146,8 @@ returns-clause-stepped g c =
     ∙ ap (λ l. with_lines_of l (regs_of c.args.machine.now.hart)) c.lines.ensures in
     let ready = with_lines guest h t v (regs_of c.args.machine.now.hart) r lines c.requires.on
     c.requires.formed in
-    ap (λ x. after_of c.answer-progress.new.guest h v x c.answer-progress.new.mem
-    c.answer-progress.result) c.set_regs.ensures.regs
+    ap (λ x. after_of c.answer-progress.new.guest h c.answer-progress.new.view x
+    c.answer-progress.new.mem c.answer-progress.result) c.set_regs.ensures.regs
     ∙ (c.answer-progress.ensures.monitored
     ∙ (ap (λ x. monitored guest.plan h t (on_hart_of guest h v x now Started)
     (view_of v x Started) (word_of x now) c.in-Trap.trap) c.regs.ensures

@@ -6,7 +6,8 @@ use Rattle.xv_hart.specs.Step.{IsWellFormed}
 use Rattle.xv_hcsr.specs.Stage.{root_of}
 use Rattle.xv_guest.specs.Guest.{held_of}
 use Rattle.xv_host.specs.Join.{IsGoodFor}
-use Rattle.xv_host.specs.OnHart.{IsOnHart}
+use Rattle.xv_firmware.specs.Calls.{Leaves}
+use Rattle.xv_host.specs.OnHart.{IsOnHart, IsViewAt}
 use Rattle.xv_host.proofs.TurnLemmas.{IsTurning}
 use Rattle.xv_host.proofs.turn.run.Given as goal
 
@@ -16,7 +17,8 @@ invariant-loop-made g l =
     let hart = l.machine.hart in
     let first = l.fn.guest in
     record {
-      same : l.guest ≡ record first { devices = l.guest.devices };
+      same : Leaves first l.guest;
+      view : IsViewAt l.guest l.vcpu l.view;
       turning : IsTurning first l.vcpu l.time l.view l.fn.machine.mem l.guest l._made
           (regs_of hart) l.machine.mem (trail_of hart);
       on : IsOnHart first l.time (regs_of hart);

@@ -14,6 +14,7 @@ invariant_of-self-2 c =
       map = c.self.invariant.map;
       starts = c.self.invariant.starts;
       count = c.self.invariant.count;
+      few = c.self.invariant.few;
       views = c.self.invariant.views;
       nothing = c.self.invariant.nothing;
       devices = step_shapes c.regions.result.now c.self.inside.devices.items

@@ -21,6 +21,7 @@ invariant_of-result c =
       map = map_is;
       starts = c.requires.starts;
       count = ap length vcpus ∙ length-map c.args.plan.vcpus (λ (v : VcpuPlan). reset_vcpu v.start);
+      few = c.requires.vcpus;
       views =
           let P : List VcpuView → Type 0 = λ views. All IsView views in
           subst P (sym vcpus) (reset_views c.args.plan.vcpus c.requires.starts);

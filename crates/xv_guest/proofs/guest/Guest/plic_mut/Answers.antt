@@ -15,6 +15,7 @@ invariant_of-self-lent c = λ last.
       map = c.self.invariant.map;
       starts = c.self.invariant.starts;
       count = c.self.invariant.count;
+      few = c.self.invariant.few;
       views = c.self.invariant.views;
       nothing = c.self.invariant.nothing;
       devices = map-set_same shape_of ds c.args.region (Plic last) Absent (sym plic)

@@ -19,6 +19,7 @@ invariant_of-self c =
       map = c.self.invariant.map;
       starts = c.self.invariant.starts;
       count = ap length vcpus ∙ length-map plans (λ (v : VcpuPlan). reset_vcpu v.start);
+      few = c.self.invariant.few;
       views =
           let P : List VcpuView → Type 0 = λ views. All IsView views in
           subst P (sym vcpus) (reset_views plans c.self.invariant.starts);

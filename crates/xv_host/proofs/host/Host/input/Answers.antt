@@ -1,4 +1,4 @@
-use Rattle.std.proofs.Common.{◌∙◌, sym, subst, ap}
+use Rattle.std.proofs.Common.{sym, subst, ap}
 use Rattle.xv_lone.specs.Journal as journal
 use Rattle.xv_guest.specs.Guest.{Guest, held_of, lone_of}
 use Rattle.xv_host.specs.Host.{Host, IsHosted}

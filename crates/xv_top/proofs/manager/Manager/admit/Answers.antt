@@ -9,7 +9,7 @@ use Rattle.xv_host.specs.declared.host.Admit.TheVariants.{Pool}
 use Rattle.xv_top.specs.Births.{created}
 use Rattle.xv_top.specs.Texts.{created_text, frames_text}
 use Rattle.xv_top.proofs.BirthLemmas.{admitted_alone, birth_sound, birth_world, had_enough, had_few}
-use Rattle.xv_top.proofs.BirthLemmas.{frames_same, is_born, no_frame, no_named, one_vcpu, refused_by}
+use Rattle.xv_top.proofs.BirthLemmas.{frames_same, is_born, no_frame, no_named, refused_by}
 use Rattle.xv_top.proofs.ManagerLemmas.{gives_by, gives_same, gives_text, name_short}
 use Rattle.xv_top.proofs.ManagerLemmas.{no_guest_of, same_none}
 use Rattle.xv_top.specs.Answer.{says}
@@ -19,10 +19,6 @@ use Rattle.xv_top.proofs.manager.Manager.admit.Goals as goal
 pub created-requires-clause-short : goal.created-requires-clause-short
 created-requires-clause-short c =
     name_short c.args.name.now c.bytes.result.now c.bytes.ensures.value c.bytes.ensures.grammar
-
-pub admit-requires-clause-vcpus : goal.admit-requires-clause-vcpus
-admit-requires-clause-vcpus c =
-    let one = one_vcpu c.args.plan c.requires.built in omega arith
 
 pub unreachable-requires : goal.unreachable-requires
 unreachable-requires c =
@@ -90,7 +86,7 @@ returns-in-Ok-clause-sound c =
     birth_sound m c.admit.new.self name plan c.in-Ok.key old.mem new.mem
     c.requires.alone empty c.requires.sound.hosted admitted.hosted admitted.key
     admitted.area admitted.guests admitted.born new old refl
-    (ap (λ (x : Machine). x.area) admitted.machine) c.requires.built c.requires.sound
+    (ap (λ (x : Machine). x.area) admitted.machine) c.requires.sound
 
 pub returns-in-Err-Pool-NoFrame-clause-answer : goal.returns-in-Err-Pool-NoFrame-clause-answer
 returns-in-Err-Pool-NoFrame-clause-answer c =

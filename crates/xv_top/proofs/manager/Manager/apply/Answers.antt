@@ -7,7 +7,7 @@ use Rattle.xv_top.specs.World.{guest_named}
 use Rattle.xv_top.specs.Commands.{input_guest}
 use Rattle.xv_top.proofs.CommandLemmas.{create_is, flat_is, load_is, poke_is, kick_is, regs_is}
 use Rattle.xv_top.proofs.CommandLemmas.{mem_is, digest_is, audit_is, list_is, ports_is, clock_is}
-use Rattle.xv_top.proofs.CommandLemmas.{input_is, tick_is, run_is, unbuilt_is}
+use Rattle.xv_top.proofs.CommandLemmas.{dump_is, input_is, tick_is, run_is, unbuilt_is}
 use Rattle.xv_top.proofs.FetchLemmas.{stands_command}
 use Rattle.xv_top.proofs.ManagerLemmas.{create_stops, flat_stops, load_stops, gives_by, gives_text}
 use Rattle.xv_top.proofs.manager.Manager.apply.Goals as goal
@@ -101,6 +101,12 @@ returns-in-Input-clause-answer g c told is =
     (c.as_slice-in-Input.ensures.value ∙ c.bytes-in-Input.view_is)))
     (c.input.ensures.answer c.args.machine.now)
 
+pub returns-in-Dump-clause-answer : goal.returns-in-Dump-clause-answer
+returns-in-Dump-clause-answer g c told is =
+    let w = world_of c.args.self.now c.args.machine.now.mem in
+    gives_by _ _ (dump_is told w c.args.line.now.command _ _ c.in-Dump.is)
+    (c.dump.ensures.answer c.args.machine.now)
+
 pub returns-in-Ports-clause-answer : goal.returns-in-Ports-clause-answer
 returns-in-Ports-clause-answer g c told is =
     let w = world_of c.args.self.now c.args.machine.now.mem in
@@ -133,5 +139,6 @@ returns-in_default-clause-answer g c told is =
     (unbuilt_is told (world_of m machine.mem) c.args.line.now.command
     others.not-Create others.not-Flat others.not-Load others.not-Poke others.not-Kick
     others.not-Regs others.not-Mem others.not-Digest others.not-Audit others.not-List
-    others.not-Input others.not-Ports others.not-Clock others.not-Tick others.not-Run)
+    others.not-Input others.not-Dump others.not-Ports others.not-Clock others.not-Tick
+    others.not-Run)
     c.refused.ensures

@@ -1,13 +1,13 @@
-use Rattle.std.proofs.Common.{◌≡◌, ◌∙◌, ap, IsTrue, None, refl, subst, sym, true}
+use Rattle.std.proofs.Common.{◌≡◌, ◌≤◌, ◌∙◌, ap, length, IsTrue, None, refl, subst, sym}
 use Rattle.std.specs.List.{All}
 use Rattle.std.proofs.lemmas.Result.{on_ok_weaker, on_err_weaker}
 use Rattle.xv_csr.specs.Fields.{IsInstructionAddress}
 use Rattle.xv_region.specs.Plan.{Plan, flat}
 use Rattle.xv_region.specs.Rules.{are_sound, first_fault}
-use Rattle.xv_top.specs.Births.{admitted, is_built}
+use Rattle.xv_top.specs.Births.{admitted}
 use Rattle.xv_top.specs.Manager.{world_of}
 use Rattle.xv_top.proofs.ManagerLemmas.{alone_wants, gives_by}
-use Rattle.xv_top.proofs.PlanLemmas.{flat_built, flat_faultless, flat_sound, flat_starts}
+use Rattle.xv_top.proofs.PlanLemmas.{flat_few, flat_faultless, flat_sound, flat_starts}
 use Rattle.xv_top.proofs.manager.Manager.flat.Goals as goal
 
 pub admit-requires-clause-regions : goal.admit-requires-clause-regions
@@ -26,9 +26,9 @@ admit-requires-clause-starts c =
     subst (λ (p : Plan). All (λ vcpu. IsInstructionAddress vcpu.start) p.vcpus)
     (sym c.in-Ok.ensures) (flat_starts c.args.pages)
 
-pub admit-requires-clause-built : goal.admit-requires-clause-built
-admit-requires-clause-built c =
-    subst (λ (p : Plan). is_built p ≡ true) (sym c.in-Ok.ensures) (flat_built c.args.pages)
+pub admit-requires-clause-few : goal.admit-requires-clause-few
+admit-requires-clause-few c =
+    subst (λ (p : Plan). length p.vcpus ≤ 8) (sym c.in-Ok.ensures) (flat_few c.args.pages)
 
 pub returns-clause-answer : goal.returns-clause-answer
 returns-clause-answer c =

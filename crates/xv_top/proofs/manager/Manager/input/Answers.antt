@@ -1,4 +1,5 @@
-use Rattle.std.proofs.Common.{◌≡◌, ◌∙◌, ℕ, ◌<◌, true, false, List, length, ltb, refl, sym, ap, arith}
+use Rattle.std.proofs.Common.{◌≡◌, ◌∙◌, ℕ, ◌<◌, true, false, List, length, ltb, refl, sym, ap}
+use Rattle.std.proofs.Common.{arith}
 use Rattle.std.proofs.Common.{inl, inr}
 use Rattle.std.proofs.lemmas.Bool.Decides.{nat_tests}
 use Rattle.std.proofs.lemmas.Bool.{cases_lt, cond-false}
@@ -35,7 +36,7 @@ returns-in-Ok-clause-answer c machine =
     c.in-Some.ensures.named in
     let g = alone.guest in
     let at = guest_there m.host.guests c.in-Some.key alone in
-    let live = live_guest name g machine.mem in
+    let live = live_guest name m.last g machine.mem in
     let come = journal.Input region bytes in
     let text = input_text name dev (length bytes) in
     let next : LiveGuest → Answer = at_port w dev (input_at w name dev bytes) in

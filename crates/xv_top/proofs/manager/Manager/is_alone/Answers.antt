@@ -24,9 +24,9 @@ returns-then-is_some-2-clause-refused c _ bytes next =
     let w = world_of m bytes in
     let new : is_some (guest_named name w) ≡ false =
     ap is_some (c.key_of.ensures.guest bytes)
-    ∙ live_none name c.key_of.result m.host.guests bytes
+    ∙ live_none name m.last c.key_of.result m.host.guests bytes
     (sym c.is_some.ensures ∙ c.if-is_some.false) in
     cond-false (is_some (guest_named name w)) _ _ new
-    ∙ (cond-true _ _ _ (some_guests m.guest m.host.guests bytes c.requires.guests
+    ∙ (cond-true _ _ _ (some_guests m.guest m.last m.host.guests bytes c.requires.guests
     (sym c.is_some-2.ensures ∙ c.if-is_some-2.true))
     ∙ ap (says w) (sym c.refused-then-is_some-2.ensures))

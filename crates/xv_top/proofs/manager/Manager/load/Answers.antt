@@ -15,7 +15,7 @@ returns-in-Ok-Some-clause-answer g c told is =
     let alone = alone_named m.guest m.host.guests name c.in-Some.key c.requires.sound.guests
     c.in-Some.ensures.named in
     let at = guest_there m.host.guests c.in-Some.key alone in
-    let live = live_guest name alone.guest host in
+    let live = live_guest name c.args.self.now.last alone.guest host in
     gives_by _ _
     (c.in-Some.ensures.next alone.guest at host (load_file told w name c.args.gpa c.args.file.now)
     ∙ (some_at _ c.in-Ok-Some.field-0 c.in-Ok-Some.bytes c.in-Ok-Some.field-0-is
@@ -40,7 +40,7 @@ returns-in-Ok-None-clause-answer g c told is =
     let alone = alone_named m.guest m.host.guests name c.in-Some.key c.requires.sound.guests
     c.in-Some.ensures.named in
     let at = guest_there m.host.guests c.in-Some.key alone in
-    let live = live_guest name alone.guest machine.mem in
+    let live = live_guest name c.args.self.now.last alone.guest machine.mem in
     gives_text _ m machine _ _
     (c.in-Some.ensures.next alone.guest at machine.mem
     (load_file told w name c.args.gpa c.args.file.now)

@@ -1,10 +1,9 @@
-use Rattle.std.proofs.Common.{◌≡◌, ◌∙◌, ℕ, Bool, true, false, ◌&&◌, List, [], length, get_or, Option}
+use Rattle.std.proofs.Common.{◌≡◌, ◌∙◌, Bool, true, ◌&&◌, [], get_or}
 use Rattle.std.proofs.Common.{Some, refl, sym, ap, subst, arith}
 use Rattle.std.specs.List.{position}
 use Rattle.std.specs.Str.{bytes_eq}
 use Rattle.std.proofs.lemmas.Bool.{and_parts}
 use Rattle.std.proofs.lemmas.List.Quantifiers.{position-Some}
-use Rattle.xv_region.specs.declared.plan.DeviceKind.{DeviceKind}
 use Rattle.xv_region.specs.declared.plan.DeviceKind.TheVariants.{Uart, Plic, Finisher}
 use Rattle.xv_region.specs.declared.plan.Kind.{Kind}
 use Rattle.xv_region.specs.declared.plan.Kind.TheVariants.{Ram, Rom, Reserved, Alias, Device}
@@ -52,7 +51,8 @@ returns-clause-uart c g at =
     let found = position-Some named guest.plan.regions k nowhere there in
     let r = get_or guest.plan.regions k nowhere in
     let parts = and_parts (is_port r) (bytes_eq r.name dev) found.1 in
-    let uart = uart_at guest.plan.regions guest.devices k nowhere c.plan-plan.ensures.devices found.0
+    let uart = uart_at guest.plan.regions guest.devices k nowhere c.plan-plan.ensures.devices
+    found.0
     (uart_shape r.kind parts.0) in
     let live = c.guest-guest.ensures in
     let same : guest ≡ g = cc in
