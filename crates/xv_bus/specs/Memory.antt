@@ -10,8 +10,7 @@ pub record Place : Type 0 where
   pub writable : Bool
 
 -- `find gpa len` is where the len bytes from gpa on lie, if they lie in one memory region; `cells`
--- has the
--- bytes of each region by its number
+-- has the bytes of each region by its number
 pub record Flat : Type 0 where
   pub find : ℕ → ℕ → Option Place
   pub cells : List (List ℕ)

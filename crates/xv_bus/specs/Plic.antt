@@ -20,8 +20,7 @@ use Rattle.xv_bus.specs.Below.{some_below, least_below, greatest_below}
 use Rattle.xv_bus.specs.Device.{Answer, answer}
 
 -- `priority` has 64 numbers, the first of no source; `enables` and `threshold` have 8, of which the
--- first
--- `contexts` are in use
+-- first `contexts` are in use
 pub record PlicUnit : Type 0 where
   pub contexts : ℕ
   pub priority : List ℕ

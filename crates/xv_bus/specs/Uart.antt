@@ -21,8 +21,7 @@ use Rattle.xv_bus.specs.declared.registers.UartRegister.TheVariants.{ModemStatus
 use Rattle.xv_bus.specs.Device.{Answer, answer}
 
 -- `shift` is log 2 of the distance of the registers; `msr` is bits 3:0 of the modem status
--- register, and
--- `fifo` is what was received, the oldest first
+-- register, and `fifo` is what was received, the oldest first
 pub record UartPort : Type 0 where
   pub shift : ℕ
   pub ier : ℕ

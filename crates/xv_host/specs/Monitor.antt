@@ -1,6 +1,5 @@
 -- The monitor: by the trap and by the word at the pc alone it gives what the lone machine answers
--- to
--- the ask that the hart left.
+-- to the ask that the hart left.
 use Rattle.std.specs.Prelude.{ℕ, ◌≡◌, ◌≢◌, ◌+◌, ◌*◌, ◌%◌, ◌==◌, if◌then◌else◌, List, Option, Some}
 use Rattle.std.specs.Prelude.{None}
 use Rattle.std.specs.Prelude.{option_and_then, unwrap_or}

@@ -185,8 +185,7 @@ fn set_lines(hart: &mut Hart, lines: Lines)
 }
 
 /// Answers a call of the VCPU that is on the hart. It may change other VCPUs of the guest; the view
-/// and
-/// the hart's registers are then what the call left of this one.
+/// and the hart's registers are then what the call left of this one.
 fn answer_call(
     guest: &mut Guest,
     vcpu: VcpuNo,

@@ -87,8 +87,8 @@ abbrev pub high_half : ℤ → ℕ
 high_half z = residue 64 (floor_div z (2 ^ 64))
 
 -- ---- quotients, rounded towards zero: by zero all ones, and the dividend remains. The least
--- number by -1
--- gives a quotient of its size, which is the least number again modulo 2^64, and nothing remains
+-- number by -1 gives a quotient of its size, which is the least number again modulo 2^64, and
+-- nothing remains
 
 abbrev pub quotient_signed : ℕ → ℕ → ℕ
 quotient_signed a b =

@@ -1,7 +1,6 @@
 -- Worked rows of the calls to firmware, computed by the checker: a guest with 64 bytes of memory
--- that
--- can be written and 64 that can't, an alias of the former, a finisher, and two VCPUs, of which the
--- first is started and makes the call.
+-- that can be written and 64 that can't, an alias of the former, a finisher, and two VCPUs, of
+-- which the first is started and makes the call.
 use Rattle.std.proofs.Common.{◌≡◌, ℕ, ◌+◌, ◌-◌, ◌^◌, Bool, true, false, List, [], ◌∷◌, map}
 use Rattle.std.proofs.Common.{slice_index, refl}
 use Rattle.std.specs.List.{flat_map}

@@ -4,8 +4,7 @@
 //!
 //! A VCPU's step is that of `xv_step`'s hart over the cells of the guest's memory; what that hart
 //! asks for is answered here at once, an access to a device by its automaton (`xv_bus`). An answer
-//! is
-//! about the whole machine, as a call to firmware may be about other VCPUs (`xv_sbi`).
+//! is about the whole machine, as a call to firmware may be about other VCPUs (`xv_sbi`).
 #![tactic(auto)]
 
 mod vcpu;

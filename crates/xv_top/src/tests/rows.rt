@@ -69,7 +69,8 @@ const EMPTY: FileOf = FileOf {
     fills: &[],
 };
 
-// A function that has a table is proved in time that grows faster than the table, so there are several.
+// A function that has a table is proved in time that grows faster than the table, so there are
+// several.
 pub static ROWS: [Row; 15] = [
     Row {
         message: "the first script",
