@@ -83,15 +83,13 @@ with_lines g h t v r next is on formed =
     })
 
 -- the monitor's answer leaves root, time and reservation, and of h all but the lines
-pub on_again : (g : Guest) (t : ℕ) (stepped taken next : Regs) → IsOnHart g t stepped
-    → taken ≡ stepped → next.time ≡ taken.time
-    → next.h ≡ record taken.h { hvip = next.h.hvip } → next.held ≡ taken.held → IsOnHart g t next
-on_again g t stepped taken next on same time h held = record {
-  root = ap root_of h ∙ (ap (λ r. root_of r.h) same ∙ on.root);
-  time = ap (λ n. guest_time n next.h) time ∙ (ap (guest_time taken.time) h
-      ∙ (ap (λ r. guest_time r.time r.h) same ∙ on.time));
-  reserved = subst (ReservedStands (holdings_of g)) (sym (held ∙ ap (λ r. r.held) same))
-      on.reserved;
+pub on_again : (g : Guest) (t : ℕ) (stepped next : Regs) → IsOnHart g t stepped
+    → next.time ≡ stepped.time → next.h ≡ record stepped.h { hvip = next.h.hvip }
+    → next.held ≡ stepped.held → IsOnHart g t next
+on_again g t stepped next on time h held = record {
+  root = ap root_of h ∙ on.root;
+  time = ap (λ n. guest_time n next.h) time ∙ (ap (guest_time stepped.time) h ∙ on.time);
+  reserved = subst (ReservedStands (holdings_of g)) (sym held) on.reserved;
 }
 
 -- every exception of a step enters the guest

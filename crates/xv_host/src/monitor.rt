@@ -82,24 +82,56 @@ pub(crate) fn lone_step<L: Ledger>(
     let Exit::Trap(trap) = machine.hart.step(&mut machine.mem, steps) else {
         return Progress::Goes(HartState::Started);
     };
+    answer_trap(guest, vcpu, view, machine, time, &trap, steps)
+}
+
+/// The monitor's part of a lone step. Few steps have one, so it is a function of its own: the
+/// others make no copy of the registers.
+#[cold]
+fn answer_trap<L: Ledger>(
+    guest: &mut Guest,
+    vcpu: VcpuNo,
+    view: &mut VcpuView,
+    machine: &mut Machine,
+    time: u64,
+    trap: &HTrap,
+    steps: &mut Steps<L>,
+) -> Progress
+    requires number { vcpu < length guest.old.vcpus }
+    requires view { IsViewAt guest.old vcpu view.old }
+    requires formed { IsWellFormed (regs_of machine.old.hart) }
+    requires memory { HasMemory (regs_of machine.old.hart) machine.old.mem }
+    requires held { IsHeld machine.old.mem (held_of guest.old) }
+    requires accepted { Accepted guest.old.plan.regions }
+    requires tells { TellsAccess (access_by (word_of (regs_of machine.old.hart) machine.old.mem)
+        (regs_of machine.old.hart).x) trap.now }
+    ensures monitored { after_of guest.new vcpu view.new (regs_of machine.new.hart) machine.new.mem
+        result ≡ monitored guest.old.plan vcpu time
+        (on_hart_of guest.old vcpu view.old (regs_of machine.old.hart) machine.old.mem
+        states.Started) (view_of view.old (regs_of machine.old.hart) states.Started)
+        (word_of (regs_of machine.old.hart) machine.old.mem) trap.now }
+    ensures leaves { Leaves guest.old guest.new }
+    ensures view { Shows result guest.new vcpu view.new }
+    ensures time { (regs_of machine.new.hart).time ≡ (regs_of machine.old.hart).time }
+    ensures h { (regs_of machine.new.hart).h
+        ≡ record (regs_of machine.old.hart).h { hvip = (regs_of machine.new.hart).h.hvip } }
+    ensures held { (regs_of machine.new.hart).held ≡ (regs_of machine.old.hart).held }
+    ensures formed { IsWellFormed (regs_of machine.new.hart) }
+    ensures trail { trail_of machine.new.hart ≡ trail_of machine.old.hart }
+    ensures taken { taken_by machine.new.hart ≡ taken_by machine.old.hart }
+    ensures room { room_of machine.new.hart ≡ room_of machine.old.hart }
+    ensures area { machine.new.area ≡ machine.old.area }
+    ensures good { IsGoodFor (held_of guest.old) machine.old.mem machine.new.mem }
+    ensures counted { steps.new ≤ steps.old + 16 }
+{
     let mut regs = *machine.hart.regs();
-    let progress = answer(
-        guest,
-        vcpu,
-        view,
-        &mut regs,
-        &mut machine.mem,
-        time,
-        &trap,
-        steps,
-    );
+    let mem = &mut machine.mem;
+    let progress = answer(guest, vcpu, view, &mut regs, mem, time, trap, steps);
     machine.hart.set_regs(&regs);
     progress
 }
 
-/// Answers a trap: a call, a wait, an access to a device, or one to memory that isn't there. Few
-/// steps leave one.
-#[cold]
+/// Answers a trap: a call, a wait, an access to a device, or one to memory that isn't there.
 #[tactic(auto, using(crate::proofs::ViewLemmas::fault_back))]
 fn answer<L: Ledger>(
     guest: &mut Guest,

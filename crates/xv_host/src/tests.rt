@@ -5,6 +5,7 @@ ghost use Rattle.xv_host.specs.Places.{guest_at};
 use super::*;
 use std::alloc::Global;
 use std::marker::{Brand, Model};
+use std::process::Abort;
 use std::sync::ledger::{Blank, Ledger};
 use std::test::Fail;
 use xv_base::{GuestKey, NoMemory, VcpuNo, dev_name_of};
@@ -156,34 +157,76 @@ impl World {
     }
 }
 
-#[test]
-fn a_guest_sees_nothing_of_another(rt: HostRuntime) -> Result<(), Fail> {
-    let mut world = World::new(rt.alloc(), 8)?;
-    assert_eq!(rt; world.admit(rt.alloc())?, Ok(GuestKey(0)));
-    assert_eq!(rt; world.admit(rt.alloc())?, Ok(GuestKey(1)));
-    let (end, seen) = world.run_and_release(GuestKey(1));
+// Admits guests, which get the least keys.
+fn fill(rt: &impl Abort, alloc: Global, world: &mut World, guests: u8) -> Result<(), NoMemory>
+    requires { guests ≤ 16 }
+{
+    for key in 0..guests {
+        assert_eq!(rt; world.admit(alloc)?, Ok(GuestKey(key)));
+    }
+    Ok(())
+}
+
+// The first guests are as at their birth, but for one that is gone.
+fn see_new(rt: &impl Abort, world: &World, guests: u8, gone: Option<u8>)
+    requires { guests ≤ 16 }
+{
+    for key in 0..guests {
+        let seen = if gone == Some(key) { None } else { Some(NEW) };
+        assert_eq!(rt; world.seen(GuestKey(key)), seen, "{key}");
+    }
+}
+
+// Of these guests one runs for a turn, and goes.
+fn leave(rt: &impl Abort, world: &mut World, guests: u8, key: u8)
+    requires guests { guests ≤ 16 }
+    requires key { key < guests }
+{
+    let (end, seen) = world.run_and_release(GuestKey(key));
     assert_eq!(rt; end, Some(TurnEnd::Spent));
     assert_eq!(rt; seen.map(|s| (s.1, s.2, s.3)), Some((BASE, 500, 1)));
-    assert_eq!(rt; world.seen(GuestKey(0)), Some(NEW));
-    assert_eq!(rt; world.admit(rt.alloc())?, Ok(GuestKey(1)));
-    assert_eq!(rt; world.seen(GuestKey(1)), Some(NEW));
+    see_new(rt, world, guests, Some(key));
+}
+
+// Where one of these guests runs and goes, and the next one gets its key.
+fn one_of(
+    rt: &impl Abort,
+    alloc: Global,
+    world: &mut World,
+    guests: u8,
+    key: u8,
+) -> Result<(), NoMemory>
+    requires guests { guests ≤ 16 }
+    requires key { key < guests }
+{
+    fill(rt, alloc, world, guests)?;
+    leave(rt, world, guests, key);
+    assert_eq!(rt; world.admit(alloc)?, Ok(GuestKey(key)));
+    see_new(rt, world, guests, None);
+    Ok(())
+}
+
+// The same in a world of its own. A world is dropped where little else is: each way out is proved.
+fn alone(rt: &impl Abort, alloc: Global, guests: u8, key: u8) -> Result<(), NoMemory>
+    requires guests { guests ≤ 16 }
+    requires key { key < guests }
+{
+    let mut world = World::new(alloc, 8)?;
+    one_of(rt, alloc, &mut world, guests, key)
+}
+
+#[test]
+fn a_guest_sees_nothing_of_another(rt: HostRuntime) -> Result<(), Fail> {
+    alone(&rt, rt.alloc(), 2, 1)?;
+    alone(&rt, rt.alloc(), 16, 5)?;
     Ok(())
 }
 
 #[test]
-fn sixteen_guests(rt: HostRuntime) -> Result<(), Fail> {
+fn no_seventeenth_guest(rt: HostRuntime) -> Result<(), Fail> {
     let mut world = World::new(rt.alloc(), 8)?;
-    for key in 0..16u8 {
-        assert_eq!(rt; world.admit(rt.alloc())?, Ok(GuestKey(key)));
-    }
+    fill(&rt, rt.alloc(), &mut world, 16)?;
     let none = Admit::Pool(PoolFault::NoRoot);
     assert_eq!(rt; world.admit(rt.alloc())?, Err(none));
-    let (end, _) = world.run_and_release(GuestKey(5));
-    assert_eq!(rt; end, Some(TurnEnd::Spent));
-    assert_eq!(rt; world.seen(GuestKey(5)), None);
-    assert_eq!(rt; world.admit(rt.alloc())?, Ok(GuestKey(5)));
-    for key in 0..16u8 {
-        assert_eq!(rt; world.seen(GuestKey(key)), Some(NEW));
-    }
     Ok(())
 }
