@@ -196,14 +196,15 @@ def script():
             % (8 if paged else 1, image(paged).hex(), random.choice([1, 1, 2, 3]))).encode()
 
 
-def main(program, seed, count):
+def compare(script, program, seed, count):
+    """Compares program and simulator on so many scripts, and gives the status to end with."""
     random.seed(int(seed))
     different = 0
     for number in range(int(count)):
         text = script()
-        answers = [subprocess.run(command, input=text, capture_output=True).stdout
-                   for command in ([program, 'boot'], [sys.executable, str(HERE / 'reference.py')])]
-        if answers[0] != answers[1]:
+        answers = [subprocess.run(command, input=text, capture_output=True, cwd=HERE).stdout
+                   for command in ([pathlib.Path(program).resolve(), 'boot'], [sys.executable, 'reference.py'])]
+        if answers[0] != answers[1] or not answers[0]:
             different += 1
             print('guest %d of seed %s: the answers differ; its script is' % (number, seed))
             print(text.decode(), end='')
@@ -214,4 +215,4 @@ def main(program, seed, count):
 if __name__ == '__main__':
     if len(sys.argv) != 4:
         sys.exit(__doc__)
-    sys.exit(main(*sys.argv[1:]))
+    sys.exit(compare(script, *sys.argv[1:]))
